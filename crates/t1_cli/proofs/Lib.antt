@@ -1,0 +1,5 @@
+pub mod Stopped
+pub mod Acted
+pub mod FlatSound
+pub mod Reports
+pub mod Verdicts

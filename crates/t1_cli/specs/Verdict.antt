@@ -1,0 +1,80 @@
+-- What a command came to, with all that its line on err tells.
+use Rattle.std.specs.Prelude.{ℕ, ◌≡◌, List, [], ◌∷◌, ◌++◌, Option, Some, None, ⊤, codes}
+use Rattle.t1_io.specs.Held.{Grew, GrewPart}
+use Rattle.t1_event.specs.declared.trace.Ending.{Ending}
+use Rattle.t1_event.specs.declared.trace.Ending.TheVariants as ending
+use Rattle.t1_event.specs.declared.report.Report.{Report}
+use Rattle.t1_log.specs.FirstLog.{first_log_of}
+use Rattle.t1_log.specs.Hex.{hex_of}
+use Rattle.t1_cli.specs.declared.outcome.Outcome.TheVariants.{Misformed, NotBuilt, Ran}
+use Rattle.t1_cli.specs.declared.status.Status.{Status}
+use Rattle.t1_cli.specs.declared.status.Status.TheVariants as status
+use Rattle.t1_cli.specs.declared.verdict.Verdict.{Verdict}
+use Rattle.t1_cli.specs.declared.verdict.Verdict.TheVariants as verdict
+use Rattle.t1_cli.specs.Outcome.{outcome_of, pc_of, fault_line, not_built_line}
+use Rattle.t1_cli.specs.Printed.{IsReportOfInput}
+use Rattle.t1_cli.specs.Serial.{WasLeft}
+
+abbrev pub status_of_verdict : Verdict → Status
+status_of_verdict verdict.Good = status.Good
+status_of_verdict verdict.Usage = status.Usage
+status_of_verdict verdict.OneSegmentOnly = status.Refused
+status_of_verdict (verdict.NotBuilt pc) = status.Refused
+status_of_verdict (verdict.Fault number pc) = status.Fault
+status_of_verdict verdict.Spent = status.Spent
+status_of_verdict verdict.ReadFault = status.ReadFault
+status_of_verdict verdict.WriteFault = status.WriteFault
+status_of_verdict verdict.OutOfMemory = status.OutOfMemory
+
+-- the line on err
+unfoldable pub verdict_line_of : Verdict → List ℕ
+verdict_line_of verdict.Good = []
+verdict_line_of verdict.Usage = codes "t1sim: usage\n"
+verdict_line_of verdict.OneSegmentOnly = codes "t1sim: elf OneSegmentOnly\n"
+verdict_line_of (verdict.NotBuilt pc) = not_built_line pc
+verdict_line_of (verdict.Fault number pc) = fault_line number pc
+verdict_line_of verdict.Spent = codes "t1sim: strand 0 spent\n"
+verdict_line_of verdict.ReadFault = codes "t1sim: read fault\n"
+verdict_line_of verdict.WriteFault = codes "t1sim: write fault\n"
+verdict_line_of verdict.OutOfMemory = codes "t1sim: out of memory\n"
+
+-- the run of an input ended so, and its first log was written
+pub record RanTo (input : List ℕ) (old new : Option (List ℕ)) (ending : Ending) : Type 0 where
+  pub report : Report
+  pub outcome : outcome_of input ≡ Ran ending report
+  pub is_report : IsReportOfInput input ending report
+  pub printed : Grew old new (first_log_of report)
+
+-- it ended by a trap of this type, at this PC
+pub record FaultsAt (input : List ℕ) (old new : Option (List ℕ)) (number pc : ℕ) : Type 0 where
+  pub report : Report
+  pub outcome : outcome_of input ≡ Ran (ending.Fault number) report
+  pub is_report : IsReportOfInput input (ending.Fault number) report
+  pub printed : Grew old new (first_log_of report)
+  pub at : pc_of report.traces ≡ pc
+
+-- it ended, and a front of its first log was written
+pub record RanInPart (input : List ℕ) (old new : Option (List ℕ)) : Type 0 where
+  pub ending : Ending
+  pub report : Report
+  pub outcome : outcome_of input ≡ Ran ending report
+  pub is_report : IsReportOfInput input ending report
+  pub printed : GrewPart old new (first_log_of report)
+
+-- what a verdict says of the input and of what was written
+abbrev pub Judged : List ℕ → Option (List ℕ) → Option (List ℕ) → Verdict → Type 0
+Judged input old new verdict.Good = RanTo input old new ending.Halted
+Judged input old new verdict.Usage = ⊤
+Judged input old new verdict.OneSegmentOnly = outcome_of input ≡ Misformed
+Judged input old new (verdict.NotBuilt pc) = outcome_of input ≡ NotBuilt pc
+Judged input old new (verdict.Fault number pc) = FaultsAt input old new number pc
+Judged input old new verdict.Spent = RanTo input old new ending.Spent
+Judged input old new verdict.ReadFault = ⊤
+Judged input old new verdict.WriteFault = RanInPart input old new
+Judged input old new verdict.OutOfMemory = ⊤
+
+-- a verdict on what the source had left
+pub record Serves (left old new : Option (List ℕ)) (verdict : Verdict) : Type 0 where
+  pub input : List ℕ
+  pub read : WasLeft left input
+  pub judged : Judged input old new verdict

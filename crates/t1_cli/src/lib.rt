@@ -1,0 +1,22 @@
+//! The commands of t1sim.
+//!
+//! [`t1_serial`] is all that the program does: it takes the words of the command line, a source
+//! and two sinks, and answers the status. Until the machine of cores and banks stands, the command
+//! `run` is the flat engine: one strand on one flat memory, in program order.
+#![tactic(auto)]
+
+pub mod first_form;
+pub mod flat;
+pub mod order;
+pub mod outcome;
+pub mod report;
+pub mod run;
+pub mod serial;
+pub mod status;
+#[cfg(test)]
+mod tests;
+pub mod unit;
+pub mod verdict;
+
+pub use serial::t1_serial;
+pub use status::Status;

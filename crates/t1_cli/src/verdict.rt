@@ -1,0 +1,18 @@
+//! What a command came to.
+
+/// What a command came to, with all that its line on err tells.
+#[derive(Clone, Copy, Debug, PartialEq, Eq)]
+pub enum Verdict {
+    Good,
+    Usage,
+    /// The input has not the first form.
+    OneSegmentOnly,
+    /// The run met a point that is not built, at this PC.
+    NotBuilt(u64),
+    /// The strand ended by a trap of this type at trap level 6.
+    Fault { number: u16, pc: u64 },
+    Spent,
+    ReadFault,
+    WriteFault,
+    OutOfMemory,
+}

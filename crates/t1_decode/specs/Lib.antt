@@ -1,0 +1,6 @@
+pub mod Fields
+pub mod Rows
+pub mod AluTable
+pub mod Forms
+pub mod MemoryTable
+pub mod Words

@@ -1,0 +1,14 @@
+//! The word of each instruction: the word table the other way.
+//!
+//! The assembler and the guest generator write words by `encode`, and `decode` of a word that it
+//! gives is the instruction again. `specs/Words.antt` draws the formats.
+#![tactic(auto)]
+
+mod fields;
+pub mod laws;
+mod numbers;
+#[cfg(test)]
+mod tests;
+mod words;
+
+pub use words::encode;

@@ -1,0 +1,39 @@
+//! The report of a run.
+
+use crate::listed::Listed;
+use crate::trace::Trace;
+
+/// The machine of a run: cores, strands of each core, bytes of RAM, sets of each L2 bank, and the
+/// budget of each strand in units.
+#[derive(Clone, Copy, Debug, PartialEq, Eq)]
+pub struct Config {
+    pub cores: u8,
+    pub strands: u8,
+    pub ram: u64,
+    pub sets: u32,
+    pub budget: u32,
+}
+
+/// What the memory holds at first, and where every strand starts.
+#[derive(Drop)]
+pub struct Image {
+    pub entry: u64,
+    pub ram: Listed<u8>,
+}
+
+/// An item of a run: the number of its strand, and its number in the strand's trace.
+#[derive(Clone, Copy, Debug, PartialEq, Eq)]
+pub struct Place {
+    pub strand: u8,
+    pub item: u32,
+}
+
+/// A finished run: the machine, what its memory held at first, a trace for each strand, and the
+/// memory order.
+#[derive(Drop)]
+pub struct Report {
+    pub config: Config,
+    pub image: Image,
+    pub traces: Listed<Trace>,
+    pub order: Listed<Place>,
+}

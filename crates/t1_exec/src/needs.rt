@@ -1,0 +1,95 @@
+//! What an instruction needs before it can finish.
+ghost use Rattle.std.specs.Prelude.{◌≡◌};
+ghost use Rattle.t1_insn.specs.Ranges.{IsInRange};
+ghost use Rattle.t1_state.specs.Registers.{IsStrand};
+ghost use Rattle.t1_exec.specs.Needs.{IsRam, IsPlaced, need_of, halt_or_plain};
+
+use crate::memory::{cas_op, swap_op};
+use crate::need::{AtomicOp, Need};
+use crate::operands::{address, xor};
+use crate::spaces::{SCRATCHPAD, cas_space, is_little_endian, space};
+use crate::traps::first_trap;
+use crate::values::{cas_size, load_size, store_size, stored};
+use t1_insn::Insn;
+use t1_state::Strand;
+
+/// The halt register.
+const HALT: u8 = 0x1a;
+
+/// STBAR orders stores after stores.
+const STORE_STORE: u8 = 0x08;
+
+/// What a write of an ancillary state register needs: an even number written to the halt register
+/// halts.
+fn halt_or_plain(asr: u8, value: u64) -> Need
+    ensures { result ≡ halt_or_plain asr value }
+{
+    if asr == HALT && value & 1 == 0 {
+        Need::Halt
+    } else {
+        Need::Plain
+    }
+}
+
+/// The first trap that applies to an instruction, or else what it needs. `ram` is the size of
+/// RAM in bytes.
+#[tactic(auto, using(crate::proofs::Sources::readable), unfolding(crate::specs::Needs::need_of, crate::specs::Needs::asked_of, crate::specs::Accesses::access_of))]
+pub fn issue(strand: &Strand, insn: &Insn, ram: u64) -> Need
+    requires valid { IsStrand strand.now }
+    requires fields { IsInRange insn.now }
+    requires ram { IsRam ram }
+    ensures value { result ≡ need_of strand.now insn.now ram }
+    ensures placed { IsPlaced ram result }
+{
+    if let Some(number) = first_trap(strand, insn, ram) {
+        return Need::Trap(number);
+    }
+    match *insn {
+        Insn::Load {
+            kind,
+            rd: _,
+            rs1,
+            mem,
+        } if space(strand, mem) != SCRATCHPAD => Need::Load {
+            addr: address(strand, rs1, mem),
+            size: load_size(kind),
+        },
+        Insn::Store { kind, rd, rs1, mem } if space(strand, mem) != SCRATCHPAD => {
+            let little = is_little_endian(space(strand, mem));
+            Need::Store {
+                addr: address(strand, rs1, mem),
+                size: store_size(kind),
+                value: stored(strand, kind, rd, little),
+            }
+        }
+        Insn::Ldstub { rd: _, rs1, mem } => Need::Atomic {
+            addr: address(strand, rs1, mem),
+            size: 1,
+            op: AtomicOp::Swap(0xff),
+        },
+        Insn::Swap { rd, rs1, mem } => Need::Atomic {
+            addr: address(strand, rs1, mem),
+            size: 4,
+            op: swap_op(space(strand, mem), 4, strand.reg(rd)),
+        },
+        Insn::Cas {
+            wide,
+            rd,
+            rs1,
+            rs2,
+            asi,
+        } => {
+            let (size, expect, new) = (cas_size(wide), strand.reg(rs2), strand.reg(rd));
+            Need::Atomic {
+                addr: strand.reg(rs1),
+                size,
+                op: cas_op(cas_space(strand, asi), size, expect, new),
+            }
+        }
+        Insn::Membar { mask } => Need::Membar(mask),
+        Insn::Stbar => Need::Membar(STORE_STORE),
+        Insn::Flush { .. } => Need::Flush,
+        Insn::WriteAsr { asr, rs1, src } => halt_or_plain(asr, xor(strand, rs1, src)),
+        _ => Need::Plain,
+    }
+}

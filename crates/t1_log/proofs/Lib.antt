@@ -1,0 +1,4 @@
+pub mod Blocks
+pub mod Digits
+pub mod Lengths
+pub mod Printing

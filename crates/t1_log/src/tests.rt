@@ -1,0 +1,175 @@
+//! A report with every kind of item and of ending, and its text.
+ghost use Rattle.std.specs.Prelude.{◌≡◌, ◌+◌, ◌*◌, ◌≤◌, IsTrue, All};
+ghost use Rattle.t1_log.specs.Printable.{FitsDigits, IsPrintableItem, IsPrintableTrace, IsPrintable};
+
+use crate::print_first;
+use std::alloc::{AllocError, Global};
+use std::test::Fail;
+use t1_event::{Config, Ending, How, Image, Item, ItemKind, Listed, Place, Report, Trace};
+use t1_io::CalmSink;
+
+fn item(kind: ItemKind, addr: u64, size: u8, got: u64, put: u64) -> Item {
+    Item {
+        kind,
+        addr,
+        size,
+        got,
+        put,
+        how: How::Unplaced,
+    }
+}
+
+fn trace(
+    alloc: Global,
+    items: &[Item],
+    units: u32,
+    pc: u64,
+    ending: Ending,
+) -> Result<Trace, AllocError> {
+    Ok(Trace {
+        items: Listed::from_vec(Vec::from_slice(alloc, items)?),
+        units,
+        pc,
+        ending: Some(ending),
+    })
+}
+
+fn report(alloc: Global) -> Result<Report, AllocError> {
+    let mut ram = [0; 128];
+    ram[32] = 0x82;
+    ram[33] = 0xaf;
+    ram[127] = 1;
+    let items = [
+        item(ItemKind::Fetch, 0x20, 4, 0x82af_0000, 0),
+        item(ItemKind::Load, 0x7f, 1, 1, 0),
+        item(ItemKind::Store, 0x80_0000_00c0, 2, 0, 0xbeef),
+        item(
+            ItemKind::Atomic { wrote: true },
+            0x40,
+            8,
+            0,
+            0x0123_4567_89ab_cdef,
+        ),
+        item(ItemKind::Atomic { wrote: false }, 0x44, 4, 0x89ab_cdef, 0),
+        item(ItemKind::Membar, 0, 0x0f, 0, 0),
+        item(ItemKind::Flush, 0, 0, 0, 0),
+    ];
+    let mut traces = Vec::new(alloc);
+    traces.push(trace(alloc, &items, 12, 0x34, Ending::Halted)?)?;
+    traces.push(trace(alloc, &[], 0, 0xffff_ffff_ffff_fffc, Ending::Fault(0x34))?)?;
+    traces.push(trace(alloc, items.split_at(1).0, 10, 0x24, Ending::Spent)?)?;
+    let order = [
+        Place { strand: 2, item: 0 },
+        Place { strand: 0, item: 0 },
+        Place { strand: 0, item: 4 },
+    ];
+    Ok(Report {
+        config: Config {
+            cores: 1,
+            strands: 3,
+            ram: 128,
+            sets: 1024,
+            budget: 10,
+        },
+        image: Image {
+            entry: 0x20,
+            ram: Listed::from_vec(Vec::from_slice(alloc, &ram)?),
+        },
+        traces: Listed::from_vec(traces),
+        order: Listed::from_vec(Vec::from_slice(alloc, &order)?),
+    })
+}
+
+/// A value of one, two, four or eight bytes fits that many.
+fn fits(size: u8, value: u64) -> bool
+    ensures some { IsTrue result → 1 ≤ size }
+    ensures most { IsTrue result → size ≤ 8 }
+    ensures fits { IsTrue result → FitsDigits (2 * size) value }
+{
+    match size {
+        1 => value < 1 << 8,
+        2 => value < 1 << 16,
+        4 => value < 1 << 32,
+        8 => true,
+        _ => false,
+    }
+}
+
+fn is_printable_item(item: &Item) -> bool
+    ensures { IsTrue result → IsPrintableItem item.now }
+{
+    match item.kind {
+        ItemKind::Membar | ItemKind::Flush => true,
+        _ => item.addr < 1 << 40 && fits(item.size, item.got) && fits(item.size, item.put),
+    }
+}
+
+fn are_printable_items(items: &[Item]) -> bool
+    ensures { IsTrue result → All IsPrintableItem items.now }
+{
+    items.iter().all(|item| is_printable_item(item))
+}
+
+fn is_printable_trace(trace: &Trace) -> bool
+    ensures { IsTrue result → IsPrintableTrace trace.now }
+{
+    let ended = match trace.ending {
+        Some(Ending::Halted) => true,
+        Some(Ending::Spent) => true,
+        Some(Ending::Fault(number)) => number < 1 << 12,
+        None => false,
+    };
+    ended && are_printable_items(trace.items.as_slice())
+}
+
+fn are_printable_traces(traces: &[Trace]) -> bool
+    ensures { IsTrue result → All IsPrintableTrace traces.now }
+{
+    traces.iter().all(|trace| is_printable_trace(trace))
+}
+
+fn is_printable(report: &Report) -> bool
+    ensures { IsTrue result → IsPrintable report.now }
+{
+    let bytes = report.image.ram.as_slice().len();
+    let traces = report.traces.as_slice();
+    let strands = u16::from(report.config.cores) * u16::from(report.config.strands);
+    report.image.entry < 1 << 40
+        && bytes % 32 == 0
+        && bytes <= 1 << 40
+        && are_printable_traces(traces)
+        && traces.len() == usize::from(strands)
+        && traces.len() <= 256
+}
+
+const TEXT: &str = "t1log 0
+config cores 1 strands 3 ram 128 sets 1024 budget 10
+entry 0000000020
+m 0000000020 82af000000000000000000000000000000000000000000000000000000000000
+m 0000000060 0000000000000000000000000000000000000000000000000000000000000001
+i 0 0 fetch 0000000020 4 82af0000 -
+i 0 1 load 000000007f 1 01 -
+i 0 2 store 80000000c0 2 - beef
+i 0 3 atomic 0000000040 8 0000000000000000 0123456789abcdef
+i 0 4 atomic 0000000044 4 89abcdef -
+i 0 5 membar 0f
+i 0 6 flush
+e 0 halted 12 0000000000000034
+e 1 fault 0 fffffffffffffffc 034
+i 2 0 fetch 0000000020 4 82af0000 -
+e 2 spent 10 0000000000000024
+o 2 0
+o 0 0
+o 0 4
+end
+";
+
+#[test]
+fn every_kind_of_line_is_printed(rt: HostRuntime) -> Result<(), Fail> {
+    let report = report(rt.alloc())?;
+    assert!(rt; is_printable(&report));
+    let mut sink = CalmSink::new(rt.alloc(), 4096)?;
+    print_first(&report, &mut sink)?;
+    assert_eq!(rt; sink.as_slice(), TEXT.as_bytes());
+    Ok(())
+}

@@ -1,0 +1,10 @@
+pub mod Ancillary
+pub mod Bits
+pub mod Interrupts
+pub mod Laws
+pub mod Privileged
+pub mod Pstate
+pub mod Ranges
+pub mod Registers
+pub mod Traps
+pub mod Tstate
