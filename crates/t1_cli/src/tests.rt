@@ -1,4 +1,5 @@
 //! The serial command over devices in memory, and longer guests on the flat engine.
+use crate::first_form::{FIRST_RAM, blank};
 use crate::flat::FlatEnd;
 use crate::run::run_flat;
 use crate::serial::t1_serial;
@@ -333,14 +334,16 @@ fn handlers_spill_fill_and_return(rt: HostRuntime) -> Result<(), Fail> {
         (&[(0x100, ASK), (0x880, INTERRUPT)], 77, 5),
     ];
     for (parts, first, second) in table {
-        let mut memory = Vec::from_elem(rt.alloc(), 0u8, 65536)?;
+        let mut memory = blank(rt.alloc(), FIRST_RAM)?;
         for (at, words) in parts {
             for (i, word) in words.iter().enumerate() {
                 let place = at.saturating_add(i.saturating_mul(4));
-                assert!(rt; place <= 65532);
+                assert_eq!(rt; memory.len(), FIRST_RAM);
+                assert!(rt; place <= FIRST_RAM - 4);
                 put_be(&mut memory, place, 4, *word as u64);
             }
         }
+        assert_eq!(rt; memory.len(), FIRST_RAM);
         let run = run_flat(rt.alloc(), &mut memory, 0x100, 10_000)?;
         assert_eq!(rt; run.end, FlatEnd::Over(Ending::Halted));
         assert_eq!(rt; run.strand.tl, 0);

@@ -64,7 +64,132 @@ fn trap(strand: &mut Strand, number: u16) -> FlatEnd
     }
 }
 
-/// Makes the access or the barrier that an instruction needs, and finishes the instruction.
+/// Whether an atomic that got this value writes, and the value that it puts: 0 where it does not.
+fn written(op: AtomicOp, got: u64) -> (bool, u64)
+    ensures fits { (size : ℕ) → OpFits size op → result.1 < 2 ^ (8 * size) }
+    ensures item { (addr size : ℕ) → access_item (ItemKind.Atomic result.0) addr size got result.1 ≡ atomic_item addr size op got }
+{
+    match op {
+        AtomicOp::Swap(new) => (true, new),
+        AtomicOp::Cas { expect, new } => {
+            if got == expect {
+                (true, new)
+            } else {
+                (false, 0)
+            }
+        }
+    }
+}
+
+/// A load that an instruction needs, and the instruction on the value read.
+#[tactic(auto, unfolding(crate::specs::Flat::flat_met))]
+fn load(
+    strand: &mut Strand,
+    memory: &[u8],
+    items: &mut Listed<Item>,
+    insn: &Insn,
+    addr: u64,
+    size: u8,
+) -> Result<FlatEnd, AllocError>
+    requires valid { IsStrand strand.old }
+    requires units { strand.old.units + 1 < 2 ^ 32 }
+    requires ram { IsRam (length memory.now) }
+    requires fields { IsInRange insn.now }
+    requires placed { IsPlaced (length memory.now) (Need.Load addr size) }
+    ensures exact { IfOk result (λ end. flat_at strand.new memory.now items.new end ≡ flat_met strand.old insn.now memory.now items.old (Need.Load addr size)) }
+    ensures valid { IsStrand strand.new }
+    ensures units { strand.new.units ≤ strand.old.units + 1 }
+    ensures on { IfOk result (λ end. end ≡ FlatEnd.On → strand.new.units ≡ strand.old.units + 1) }
+    ensures few { length items.new ≤ length items.old + 1 }
+    ensures printable { All IsPrintableItem items.old → All IsPrintableItem items.new }
+    ensures end { IfOk result EndPrints }
+{
+    let ram = memory.len() as u64;
+    if addr + size as u64 > ram {
+        return Ok(FlatEnd::Unbuilt);
+    }
+    let got = get_be(memory, addr as usize, size as usize);
+    note(items, item(ItemKind::Load, addr, size, got, 0))?;
+    finish(strand, insn, got, ram);
+    Ok(FlatEnd::On)
+}
+
+/// A store that an instruction needs, and the instruction.
+#[tactic(auto, unfolding(crate::specs::Flat::flat_met))]
+fn store(
+    strand: &mut Strand,
+    memory: &mut [u8],
+    items: &mut Listed<Item>,
+    insn: &Insn,
+    addr: u64,
+    size: u8,
+    value: u64,
+) -> Result<FlatEnd, AllocError>
+    requires valid { IsStrand strand.old }
+    requires units { strand.old.units + 1 < 2 ^ 32 }
+    requires ram { IsRam (length memory.old) }
+    requires fields { IsInRange insn.now }
+    requires placed { IsPlaced (length memory.old) (Need.Store addr size value) }
+    ensures exact { IfOk result (λ end. flat_at strand.new memory.new items.new end ≡ flat_met strand.old insn.now memory.old items.old (Need.Store addr size value)) }
+    ensures valid { IsStrand strand.new }
+    ensures units { strand.new.units ≤ strand.old.units + 1 }
+    ensures on { IfOk result (λ end. end ≡ FlatEnd.On → strand.new.units ≡ strand.old.units + 1) }
+    ensures few { length items.new ≤ length items.old + 1 }
+    ensures printable { All IsPrintableItem items.old → All IsPrintableItem items.new }
+    ensures end { IfOk result EndPrints }
+{
+    let ram = memory.len() as u64;
+    if addr + size as u64 > ram {
+        return Ok(FlatEnd::Unbuilt);
+    }
+    note(items, item(ItemKind::Store, addr, size, 0, value))?;
+    put_be(memory, addr as usize, size as usize, value);
+    finish(strand, insn, 0, ram);
+    Ok(FlatEnd::On)
+}
+
+/// An atomic that an instruction needs, and the instruction on the value read.
+#[tactic(auto, unfolding(crate::specs::Flat::flat_met))]
+fn atomic(
+    strand: &mut Strand,
+    memory: &mut [u8],
+    items: &mut Listed<Item>,
+    insn: &Insn,
+    addr: u64,
+    size: u8,
+    op: AtomicOp,
+) -> Result<FlatEnd, AllocError>
+    requires valid { IsStrand strand.old }
+    requires units { strand.old.units + 1 < 2 ^ 32 }
+    requires ram { IsRam (length memory.old) }
+    requires fields { IsInRange insn.now }
+    requires placed { IsPlaced (length memory.old) (Need.Atomic addr size op) }
+    ensures exact { IfOk result (λ end. flat_at strand.new memory.new items.new end ≡ flat_met strand.old insn.now memory.old items.old (Need.Atomic addr size op)) }
+    ensures valid { IsStrand strand.new }
+    ensures units { strand.new.units ≤ strand.old.units + 1 }
+    ensures on { IfOk result (λ end. end ≡ FlatEnd.On → strand.new.units ≡ strand.old.units + 1) }
+    ensures few { length items.new ≤ length items.old + 1 }
+    ensures printable { All IsPrintableItem items.old → All IsPrintableItem items.new }
+    ensures end { IfOk result EndPrints }
+{
+    let ram = memory.len() as u64;
+    if addr + size as u64 > ram {
+        return Ok(FlatEnd::Unbuilt);
+    }
+    let got = get_be(memory, addr as usize, size as usize);
+    let (wrote, put) = written(op, got);
+    note(
+        items,
+        item(ItemKind::Atomic { wrote }, addr, size, got, put),
+    )?;
+    if wrote {
+        put_be(memory, addr as usize, size as usize, put);
+    }
+    finish(strand, insn, got, ram);
+    Ok(FlatEnd::On)
+}
+
+/// Meets what an instruction needs, and finishes the instruction.
 #[tactic(auto, unfolding(crate::specs::Flat::flat_met))]
 fn meet(
     strand: &mut Strand,
@@ -106,58 +231,10 @@ fn meet(
             finish(strand, insn, 0, ram);
             Ok(FlatEnd::On)
         }
-        Need::Load { addr, size } => {
-            if addr + size as u64 > ram {
-                return Ok(FlatEnd::Unbuilt);
-            }
-            let got = get_be(memory, addr as usize, size as usize);
-            note(items, item(ItemKind::Load, addr, size, got, 0))?;
-            finish(strand, insn, got, ram);
-            Ok(FlatEnd::On)
-        }
-        Need::Store { addr, size, value } => {
-            if addr + size as u64 > ram {
-                return Ok(FlatEnd::Unbuilt);
-            }
-            note(items, item(ItemKind::Store, addr, size, 0, value))?;
-            put_be(memory, addr as usize, size as usize, value);
-            finish(strand, insn, 0, ram);
-            Ok(FlatEnd::On)
-        }
-        Need::Atomic { addr, size, op } => {
-            if addr + size as u64 > ram {
-                return Ok(FlatEnd::Unbuilt);
-            }
-            let got = get_be(memory, addr as usize, size as usize);
-            let (wrote, put) = written(op, got);
-            note(
-                items,
-                item(ItemKind::Atomic { wrote }, addr, size, got, put),
-            )?;
-            if wrote {
-                put_be(memory, addr as usize, size as usize, put);
-            }
-            finish(strand, insn, got, ram);
-            Ok(FlatEnd::On)
-        }
+        Need::Load { addr, size } => load(strand, memory, items, insn, addr, size),
+        Need::Store { addr, size, value } => store(strand, memory, items, insn, addr, size, value),
+        Need::Atomic { addr, size, op } => atomic(strand, memory, items, insn, addr, size, op),
         Need::Trap(number) => Ok(trap(strand, number)),
-    }
-}
-
-/// Whether an atomic that got this value writes, and the value that it puts: 0 where it does not.
-fn written(op: AtomicOp, got: u64) -> (bool, u64)
-    ensures fits { (size : ℕ) → OpFits size op → result.1 < 2 ^ (8 * size) }
-    ensures item { (addr size : ℕ) → access_item (ItemKind.Atomic result.0) addr size got result.1 ≡ atomic_item addr size op got }
-{
-    match op {
-        AtomicOp::Swap(new) => (true, new),
-        AtomicOp::Cas { expect, new } => {
-            if got == expect {
-                (true, new)
-            } else {
-                (false, 0)
-            }
-        }
     }
 }
 
