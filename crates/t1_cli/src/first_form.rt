@@ -75,7 +75,7 @@ fn has_first_form(file: &[u8]) -> bool
 
 /// A memory of zeros.
 #[tactic(auto, unfolding(crate::specs::FirstForm::zeros))]
-fn blank(alloc: Global, size: usize) -> Result<Vec<u8>, AllocError>
+pub(crate) fn blank(alloc: Global, size: usize) -> Result<Vec<u8>, AllocError>
     ensures value { IfOk result (λ memory. memory.items ≡ zeros size) }
     ensures size { IfOk result (λ memory. length memory.items ≡ size) }
 {
