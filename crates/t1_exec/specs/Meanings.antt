@@ -80,6 +80,27 @@ loaded s kind space addr rd value = with_reg s rd (loaded_value s kind space add
 unfoldable pub stored : Strand → ℕ → ℕ → ℕ → Strand
 stored s space addr rd = if is_scratchpad space then record s { scratch = slice_set s.scratch (scratch_number addr) (reg_of s rd) } else s
 
+-- what a load or an atomic does with the value that it read, and a store with a register of the scratchpad
+unfoldable pub accessed : Strand → Insn → ℕ → Strand
+accessed s (Load kind rd rs1 mem) value = loaded s kind (space_of s mem) (address_of s rs1 mem) rd value
+accessed s (Store kind rd rs1 mem) value = stored s (space_of s mem) (address_of s rs1 mem) rd
+accessed s (Ldstub rd rs1 mem) value = with_reg s rd value
+accessed s (Swap rd rs1 mem) value = with_reg s rd (in_order (is_little (space_of s mem)) 4 value)
+accessed s (Cas wide rd rs1 rs2 asi) value = with_reg s rd (in_order (is_little (cas_space s asi)) (cas_size wide) value)
+accessed s _ value = s
+
+-- what a move between windows, or to or from a state register, does; another instruction that is no operation may access memory
+unfoldable pub managed : Strand → Insn → ℕ → Strand
+managed s (Save rd rs1 src) value = moved s (windows_after_save s.win) rd (sum_of s rs1 src)
+managed s (Restore rd rs1 src) value = moved s (windows_after_restore s.win) rd (sum_of s rs1 src)
+managed s Saved value = record s { win = windows_after_saved s.win }
+managed s Restored value = record s { win = windows_after_restored s.win }
+managed s (ReadAsr asr rd) value = with_reg s rd (asr_of s asr)
+managed s (WriteAsr asr rs1 src) value = with_asr s asr (xor_of s rs1 src)
+managed s (ReadPr reg rd) value = with_privileged_read s reg rd
+managed s (WritePr reg rs1 src) value = with_privileged_written s reg (xor_of s rs1 src)
+managed s i value = accessed s i value
+
 -- what an instruction that jumps nowhere does, but for going on; value is what its load or atomic read
 unfoldable pub acted : Strand → Insn → ℕ → Strand
 acted s (Sethi rd imm) value = with_reg s rd (imm * 1024)
@@ -87,20 +108,7 @@ acted s (Alu op cc rd rs1 src) value = computed s cc rd (alu_result s op rs1 src
 acted s (Shift op wide rd rs1 src) value = with_reg s rd (shift_of op wide (reg_of s rs1) (operand_of s src))
 acted s (Movcc cond wide rd src) value = with_reg_if (holds_of cond s.ccr wide) s rd (operand_of s src)
 acted s (Movr rcond rd rs1 src) value = with_reg_if (rholds_of rcond (reg_of s rs1)) s rd (operand_of s src)
-acted s (Save rd rs1 src) value = moved s (windows_after_save s.win) rd (sum_of s rs1 src)
-acted s (Restore rd rs1 src) value = moved s (windows_after_restore s.win) rd (sum_of s rs1 src)
-acted s Saved value = record s { win = windows_after_saved s.win }
-acted s Restored value = record s { win = windows_after_restored s.win }
-acted s (ReadAsr asr rd) value = with_reg s rd (asr_of s asr)
-acted s (WriteAsr asr rs1 src) value = with_asr s asr (xor_of s rs1 src)
-acted s (ReadPr reg rd) value = with_privileged_read s reg rd
-acted s (WritePr reg rs1 src) value = with_privileged_written s reg (xor_of s rs1 src)
-acted s (Load kind rd rs1 mem) value = loaded s kind (space_of s mem) (address_of s rs1 mem) rd value
-acted s (Store kind rd rs1 mem) value = stored s (space_of s mem) (address_of s rs1 mem) rd
-acted s (Ldstub rd rs1 mem) value = with_reg s rd value
-acted s (Swap rd rs1 mem) value = with_reg s rd (in_order (is_little (space_of s mem)) 4 value)
-acted s (Cas wide rd rs1 rs2 asi) value = with_reg s rd (in_order (is_little (cas_space s asi)) (cas_size wide) value)
-acted s _ value = s
+acted s i value = managed s i value
 
 -- the state after an instruction that takes no trap
 unfoldable pub after_of : Strand → Insn → ℕ → Strand

@@ -32,18 +32,22 @@ cas_in space size expect new = Cas (in_order (is_little space) size expect) (in_
 abbrev pub halt_or_plain : ℕ → ℕ → Need
 halt_or_plain asr value = if (asr == 0x1a) && (value % 2 == 0) then need.Halt else need.Plain
 
+-- the atomic that an instruction asks for
+unfoldable pub atomic_of : Strand → Insn → Need
+atomic_of s (Ldstub rd rs1 mem) = need.Atomic (address_of s rs1 mem) 1 (Swap 0xff)
+atomic_of s (insn.Swap rd rs1 mem) = need.Atomic (address_of s rs1 mem) 4 (swap_in (space_of s mem) 4 (reg_of s rd))
+atomic_of s (insn.Cas wide rd rs1 rs2 asi) = need.Atomic (reg_of s rs1) (cas_size wide) (cas_in (cas_space s asi) (cas_size wide) (reg_of s rs2) (reg_of s rd))
+atomic_of s _ = need.Plain
+
 -- what an instruction asks for that takes no trap
 unfoldable pub asked_of : Strand → Insn → Need
 asked_of s (Load kind rd rs1 mem) = asked_in (space_of s mem) (need.Load (address_of s rs1 mem) (load_size kind))
 asked_of s (Store kind rd rs1 mem) = asked_in (space_of s mem) (need.Store (address_of s rs1 mem) (store_size kind) (stored_of s kind rd (is_little (space_of s mem))))
-asked_of s (Ldstub rd rs1 mem) = need.Atomic (address_of s rs1 mem) 1 (Swap 0xff)
-asked_of s (insn.Swap rd rs1 mem) = need.Atomic (address_of s rs1 mem) 4 (swap_in (space_of s mem) 4 (reg_of s rd))
-asked_of s (insn.Cas wide rd rs1 rs2 asi) = need.Atomic (reg_of s rs1) (cas_size wide) (cas_in (cas_space s asi) (cas_size wide) (reg_of s rs2) (reg_of s rd))
 asked_of s (Membar mask) = need.Membar mask
 asked_of s Stbar = need.Membar 0x08
 asked_of s (Flush rs1 src) = need.Flush
 asked_of s (WriteAsr asr rs1 src) = halt_or_plain asr (xor_of s rs1 src)
-asked_of s _ = need.Plain
+asked_of s i = atomic_of s i
 
 -- a trap, or else a need
 abbrev pub or_need : Option ℕ → Need → Need

@@ -1,8 +1,9 @@
-//! What an arithmetic instruction computes and keeps (SPARC V9, appendix A).
-ghost use Rattle.std.specs.Prelude.{◌≡◌, ◌<◌, IfSome};
-ghost use Rattle.t1_insn.specs.Ranges.{IsInRange};
-ghost use Rattle.t1_state.specs.Registers.{IsStrand};
-ghost use Rattle.t1_exec.specs.Operands.{IsReadable};
+//! What an arithmetic instruction computes and keeps, and moves on conditions (SPARC V9, appendix A).
+ghost use Rattle.std.specs.Prelude.{◌≡◌, ◌<◌, IsTrue, IfSome};
+ghost use Rattle.t1_insn.specs.Ranges.{IsInRange, is_register_condition};
+ghost use Rattle.t1_alu.specs.Conditions.{holds_of, rholds_of};
+ghost use Rattle.t1_state.specs.Registers.{IsStrand, reg_of};
+ghost use Rattle.t1_exec.specs.Operands.{IsReadable, operand_of};
 ghost use Rattle.t1_exec.specs.Arithmetic.{alu_result, computed};
 ghost use Rattle.t1_exec.specs.Traps.{alu_trap_in, software_trap, operation_trap};
 ghost use Rattle.t1_exec.specs.Meanings.{with_reg_if};
@@ -10,7 +11,7 @@ ghost use Rattle.t1_exec.specs.Meanings.{with_reg_if};
 use crate::operands::{operand, sum};
 use crate::spaces::is_privileged;
 use crate::traps::{DIVISION_BY_ZERO, TAG_OVERFLOW, TRAP_INSTRUCTION};
-use t1_alu::{AluOut, AluTrap, alu, holds};
+use t1_alu::{AluOut, AluTrap, alu, holds, rholds};
 use t1_insn::{AluOp, Insn, Src};
 use t1_state::Strand;
 
@@ -46,7 +47,7 @@ pub(crate) fn keep(strand: &mut Strand, cc: bool, rd: u8, outcome: Result<AluOut
 }
 
 /// Writes rd where the condition holds.
-pub(crate) fn set_reg_if(strand: &mut Strand, holds: bool, rd: u8, value: u64)
+fn set_reg_if(strand: &mut Strand, holds: bool, rd: u8, value: u64)
     requires valid { IsStrand strand.old }
     requires register { rd < 32 }
     ensures value { strand.new ≡ with_reg_if holds strand.old rd value }
@@ -56,6 +57,35 @@ pub(crate) fn set_reg_if(strand: &mut Strand, holds: bool, rd: u8, value: u64)
     if holds {
         strand.set_reg(rd, value);
     }
+}
+
+/// Moves the second operand to rd where the condition codes meet the condition.
+#[tactic(auto, using(crate::proofs::Sources::readable))]
+pub(crate) fn move_on_codes(strand: &mut Strand, cond: u8, wide: bool, rd: u8, src: Src)
+    requires valid { IsStrand strand.old }
+    requires condition { cond < 16 }
+    requires register { rd < 32 }
+    requires source { IsReadable src }
+    ensures value { strand.new ≡ with_reg_if (holds_of cond strand.old.ccr wide) strand.old rd (operand_of strand.old src) }
+    ensures units { strand.new.units ≡ strand.old.units }
+    ensures valid { IsStrand strand.new }
+{
+    let value = operand(strand, src);
+    set_reg_if(strand, holds(cond, strand.ccr, wide), rd, value);
+}
+
+/// Moves the second operand to rd where rs1 meets the condition.
+pub(crate) fn move_on_register(strand: &mut Strand, rcond: u8, rd: u8, rs1: u8, src: Src)
+    requires valid { IsStrand strand.old }
+    requires condition { IsTrue (is_register_condition rcond) }
+    requires registers { (rd < 32) × (rs1 < 32) }
+    requires source { IsReadable src }
+    ensures value { strand.new ≡ with_reg_if (rholds_of rcond (reg_of strand.old rs1)) strand.old rd (operand_of strand.old src) }
+    ensures units { strand.new.units ≡ strand.old.units }
+    ensures valid { IsStrand strand.new }
+{
+    let value = operand(strand, src);
+    set_reg_if(strand, rholds(rcond, strand.reg(rs1)), rd, value);
 }
 
 fn alu_trap(outcome: Result<AluOut, AluTrap>) -> Option<u16>

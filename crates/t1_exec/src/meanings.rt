@@ -2,23 +2,58 @@
 ghost use Rattle.std.specs.Prelude.{◌≡◌, ◌<◌, ◌+◌, ◌^◌};
 ghost use Rattle.t1_insn.specs.Ranges.{IsInRange};
 ghost use Rattle.t1_state.specs.Registers.{IsStrand};
-ghost use Rattle.t1_exec.specs.Meanings.{acted, after_of};
+ghost use Rattle.t1_exec.specs.Meanings.{managed, acted, after_of};
 
-use crate::arithmetic::{alu_result, keep, set_reg_if};
+use crate::arithmetic::{alu_result, keep, move_on_codes, move_on_register};
 use crate::branches::{advance, branch_on_codes, branch_on_register, jump_and_link, jump_to};
-use crate::memory::{load, store};
-use crate::operands::{address, operand, sum, target, xor};
+use crate::memory::end_access;
+use crate::operands::{operand, sum, target, xor};
 use crate::registers::{done, read_privileged, retry, write_privileged};
-use crate::spaces::{cas_space, is_little_endian, space};
-use crate::values::{cas_size, in_order};
 use crate::windows::{go_to_window, move_to_window, set_windows};
-use t1_alu::{holds, rholds, shift};
+use t1_alu::shift;
 use t1_insn::Insn;
 use t1_state::Strand;
 use t1_win::{restore, restored, save, saved};
 
 /// The register in which a call leaves its address, %o7.
 const CALLER: u8 = 15;
+
+/// Moves between windows, and to and from the state registers; what is neither may access memory.
+#[tactic(auto, using(crate::proofs::Sources::readable), unfolding(crate::specs::Meanings::managed))]
+fn manage(strand: &mut Strand, insn: &Insn, value: u64)
+    requires valid { IsStrand strand.old }
+    requires fields { IsInRange insn.now }
+    ensures value { strand.new ≡ managed strand.old insn.now value }
+    ensures units { strand.new.units ≡ strand.old.units }
+    ensures valid { IsStrand strand.new }
+{
+    match *insn {
+        Insn::Save { rd, rs1, src } => {
+            let sum = sum(strand, rs1, src);
+            move_to_window(strand, save(strand.win), rd, sum);
+        }
+        Insn::Restore { rd, rs1, src } => {
+            let sum = sum(strand, rs1, src);
+            move_to_window(strand, restore(strand.win), rd, sum);
+        }
+        Insn::Saved => set_windows(strand, saved(strand.win)),
+        Insn::Restored => set_windows(strand, restored(strand.win)),
+        Insn::ReadAsr { asr, rd } => {
+            let held = strand.read_asr(asr);
+            strand.set_reg(rd, held);
+        }
+        Insn::WriteAsr { asr, rs1, src } => {
+            let written = xor(strand, rs1, src);
+            strand.write_asr(asr, written);
+        }
+        Insn::ReadPr { reg, rd } => read_privileged(strand, reg, rd),
+        Insn::WritePr { reg, rs1, src } => {
+            let written = xor(strand, rs1, src);
+            write_privileged(strand, reg, written);
+        }
+        _ => end_access(strand, insn, value),
+    }
+}
 
 /// Does what an instruction that jumps nowhere does, but for going on.
 #[tactic(auto, using(crate::proofs::Sources::readable, crate::proofs::Sources::readable_count), unfolding(crate::specs::Meanings::acted))]
@@ -56,73 +91,14 @@ fn act(strand: &mut Strand, insn: &Insn, value: u64)
             wide,
             rd,
             src,
-        } => {
-            let moves = holds(cond, strand.ccr, wide);
-            let moved = operand(strand, src);
-            set_reg_if(strand, moves, rd, moved);
-        }
+        } => move_on_codes(strand, cond, wide, rd, src),
         Insn::Movr {
             rcond,
             rd,
             rs1,
             src,
-        } => {
-            let moves = rholds(rcond, strand.reg(rs1));
-            let moved = operand(strand, src);
-            set_reg_if(strand, moves, rd, moved);
-        }
-        Insn::Save { rd, rs1, src } => {
-            let sum = sum(strand, rs1, src);
-            move_to_window(strand, save(strand.win), rd, sum);
-        }
-        Insn::Restore { rd, rs1, src } => {
-            let sum = sum(strand, rs1, src);
-            move_to_window(strand, restore(strand.win), rd, sum);
-        }
-        Insn::Saved => set_windows(strand, saved(strand.win)),
-        Insn::Restored => set_windows(strand, restored(strand.win)),
-        Insn::ReadAsr { asr, rd } => {
-            let held = strand.read_asr(asr);
-            strand.set_reg(rd, held);
-        }
-        Insn::WriteAsr { asr, rs1, src } => {
-            let written = xor(strand, rs1, src);
-            strand.write_asr(asr, written);
-        }
-        Insn::ReadPr { reg, rd } => read_privileged(strand, reg, rd),
-        Insn::WritePr { reg, rs1, src } => {
-            let written = xor(strand, rs1, src);
-            write_privileged(strand, reg, written);
-        }
-        Insn::Load { kind, rd, rs1, mem } => {
-            let addr = address(strand, rs1, mem);
-            load(strand, kind, space(strand, mem), addr, rd, value);
-        }
-        Insn::Store {
-            kind: _,
-            rd,
-            rs1,
-            mem,
-        } => {
-            let addr = address(strand, rs1, mem);
-            store(strand, space(strand, mem), addr, rd);
-        }
-        Insn::Ldstub { rd, rs1: _, mem: _ } => strand.set_reg(rd, value),
-        Insn::Swap { rd, rs1: _, mem } => {
-            let little = is_little_endian(space(strand, mem));
-            strand.set_reg(rd, in_order(little, 4, value));
-        }
-        Insn::Cas {
-            wide,
-            rd,
-            rs1: _,
-            rs2: _,
-            asi,
-        } => {
-            let little = is_little_endian(cas_space(strand, asi));
-            strand.set_reg(rd, in_order(little, cas_size(wide), value));
-        }
-        _ => {}
+        } => move_on_register(strand, rcond, rd, rs1, src),
+        _ => manage(strand, insn, value),
     }
 }
 

@@ -9,7 +9,7 @@ ghost use Rattle.t1_exec.specs.Accesses.{access_at, cas_access, access_of, place
 ghost use Rattle.t1_exec.specs.Traps.{access_trap};
 ghost use Rattle.t1_exec.specs.Needs.{IsRam, OpFits, swap_in, cas_in};
 ghost use Rattle.t1_exec.specs.Served.{IsServed, IsServedWhereMade};
-ghost use Rattle.t1_exec.specs.Meanings.{loaded_value, loaded, stored, scratch_number};
+ghost use Rattle.t1_exec.specs.Meanings.{loaded_value, loaded, stored, scratch_number, accessed};
 
 use crate::access::Access;
 use crate::need::AtomicOp;
@@ -176,7 +176,7 @@ fn loaded_value(strand: &Strand, kind: LoadKind, space: u8, addr: u64, value: u6
 
 /// Writes what a load in this space read.
 #[tactic(auto, unfolding(crate::specs::Meanings::loaded))]
-pub(crate) fn load(strand: &mut Strand, kind: LoadKind, space: u8, addr: u64, rd: u8, value: u64)
+fn load(strand: &mut Strand, kind: LoadKind, space: u8, addr: u64, rd: u8, value: u64)
     requires valid { IsStrand strand.old }
     requires register { rd < 32 }
     requires even { IsLoadRegister kind rd }
@@ -196,7 +196,7 @@ pub(crate) fn load(strand: &mut Strand, kind: LoadKind, space: u8, addr: u64, rd
 
 /// Writes the scratchpad register that a store in this space names, where it names one.
 #[tactic(auto, unfolding(crate::specs::Meanings::stored))]
-pub(crate) fn store(strand: &mut Strand, space: u8, addr: u64, rd: u8)
+fn store(strand: &mut Strand, space: u8, addr: u64, rd: u8)
     requires valid { IsStrand strand.old }
     requires register { rd < 32 }
     ensures value { strand.new ≡ stored strand.old space addr rd }
@@ -205,5 +205,37 @@ pub(crate) fn store(strand: &mut Strand, space: u8, addr: u64, rd: u8)
 {
     if space == SCRATCHPAD {
         strand.scratch[scratch_number(addr)] = strand.reg(rd);
+    }
+}
+
+/// Does what an access does to its strand: keeps what a load or an atomic read, and a store in the
+/// scratchpad.
+#[tactic(auto, unfolding(crate::specs::Meanings::accessed))]
+pub(crate) fn end_access(strand: &mut Strand, insn: &Insn, value: u64)
+    requires valid { IsStrand strand.old }
+    requires fields { IsInRange insn.now }
+    ensures value { strand.new ≡ accessed strand.old insn.now value }
+    ensures units { strand.new.units ≡ strand.old.units }
+    ensures valid { IsStrand strand.new }
+{
+    match *insn {
+        Insn::Load { kind, rd, rs1, mem } => {
+            let addr = address(strand, rs1, mem);
+            load(strand, kind, space(strand, mem), addr, rd, value);
+        }
+        Insn::Store { rd, rs1, mem, .. } => {
+            let addr = address(strand, rs1, mem);
+            store(strand, space(strand, mem), addr, rd);
+        }
+        Insn::Ldstub { rd, .. } => strand.set_reg(rd, value),
+        Insn::Swap { rd, mem, .. } => {
+            let little = is_little_endian(space(strand, mem));
+            strand.set_reg(rd, in_order(little, 4, value));
+        }
+        Insn::Cas { wide, rd, asi, .. } => {
+            let little = is_little_endian(cas_space(strand, asi));
+            strand.set_reg(rd, in_order(little, cas_size(wide), value));
+        }
+        _ => {}
     }
 }

@@ -2,7 +2,9 @@
 ghost use Rattle.std.specs.Prelude.{◌≡◌};
 ghost use Rattle.t1_insn.specs.Ranges.{IsInRange};
 ghost use Rattle.t1_state.specs.Registers.{IsStrand};
-ghost use Rattle.t1_exec.specs.Needs.{IsRam, IsPlaced, need_of, halt_or_plain};
+ghost use Rattle.t1_exec.specs.Needs.{IsRam, IsPlaced, atomic_of, need_of, halt_or_plain};
+ghost use Rattle.t1_exec.specs.Accesses.{access_of};
+ghost use Rattle.t1_exec.specs.Served.{IsServedWhereMade};
 
 use crate::memory::{cas_op, swap_op};
 use crate::need::{AtomicOp, Need};
@@ -31,38 +33,17 @@ fn halt_or_plain(asr: u8, value: u64) -> Need
     }
 }
 
-/// The first trap that applies to an instruction, or else what it needs. `ram` is the size of
-/// RAM in bytes.
-#[tactic(auto, using(crate::proofs::Sources::readable), unfolding(crate::specs::Needs::need_of, crate::specs::Needs::asked_of, crate::specs::Accesses::access_of))]
-pub fn issue(strand: &Strand, insn: &Insn, ram: u64) -> Need
+/// The atomic that an instruction asks for. `ram` is the size of RAM in bytes.
+#[tactic(auto, unfolding(crate::specs::Needs::atomic_of, crate::specs::Accesses::access_of))]
+fn atomic(strand: &Strand, insn: &Insn, _ram: u64) -> Need
     requires valid { IsStrand strand.now }
     requires fields { IsInRange insn.now }
-    requires ram { IsRam ram }
-    ensures value { result ≡ need_of strand.now insn.now ram }
-    ensures placed { IsPlaced ram result }
+    requires served { IsServedWhereMade (access_of strand.now insn.now) _ram }
+    ensures value { result ≡ atomic_of strand.now insn.now }
+    ensures placed { IsPlaced _ram result }
 {
-    if let Some(number) = first_trap(strand, insn, ram) {
-        return Need::Trap(number);
-    }
     match *insn {
-        Insn::Load {
-            kind,
-            rd: _,
-            rs1,
-            mem,
-        } if space(strand, mem) != SCRATCHPAD => Need::Load {
-            addr: address(strand, rs1, mem),
-            size: load_size(kind),
-        },
-        Insn::Store { kind, rd, rs1, mem } if space(strand, mem) != SCRATCHPAD => {
-            let little = is_little_endian(space(strand, mem));
-            Need::Store {
-                addr: address(strand, rs1, mem),
-                size: store_size(kind),
-                value: stored(strand, kind, rd, little),
-            }
-        }
-        Insn::Ldstub { rd: _, rs1, mem } => Need::Atomic {
+        Insn::Ldstub { rs1, mem, .. } => Need::Atomic {
             addr: address(strand, rs1, mem),
             size: 1,
             op: AtomicOp::Swap(0xff),
@@ -86,10 +67,40 @@ pub fn issue(strand: &Strand, insn: &Insn, ram: u64) -> Need
                 op: cas_op(cas_space(strand, asi), size, expect, new),
             }
         }
+        _ => Need::Plain,
+    }
+}
+
+/// The first trap that applies to an instruction, or else what it needs. `ram` is the size of
+/// RAM in bytes.
+#[tactic(auto, using(crate::proofs::Sources::readable), unfolding(crate::specs::Needs::need_of, crate::specs::Needs::asked_of, crate::specs::Needs::atomic_of, crate::specs::Accesses::access_of))]
+pub fn issue(strand: &Strand, insn: &Insn, ram: u64) -> Need
+    requires valid { IsStrand strand.now }
+    requires fields { IsInRange insn.now }
+    requires ram { IsRam ram }
+    ensures value { result ≡ need_of strand.now insn.now ram }
+    ensures placed { IsPlaced ram result }
+{
+    if let Some(number) = first_trap(strand, insn, ram) {
+        return Need::Trap(number);
+    }
+    match *insn {
+        Insn::Load { kind, rs1, mem, .. } if space(strand, mem) != SCRATCHPAD => Need::Load {
+            addr: address(strand, rs1, mem),
+            size: load_size(kind),
+        },
+        Insn::Store { kind, rd, rs1, mem } if space(strand, mem) != SCRATCHPAD => {
+            let little = is_little_endian(space(strand, mem));
+            Need::Store {
+                addr: address(strand, rs1, mem),
+                size: store_size(kind),
+                value: stored(strand, kind, rd, little),
+            }
+        }
         Insn::Membar { mask } => Need::Membar(mask),
         Insn::Stbar => Need::Membar(STORE_STORE),
         Insn::Flush { .. } => Need::Flush,
         Insn::WriteAsr { asr, rs1, src } => halt_or_plain(asr, xor(strand, rs1, src)),
-        _ => Need::Plain,
+        _ => atomic(strand, insn, ram),
     }
 }

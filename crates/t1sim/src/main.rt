@@ -2,19 +2,42 @@
 //! with the number of its status.
 #![tactic(auto)]
 
+use std::alloc::Global;
+use std::env::{self, Args};
+use std::io;
 use std::process::ExitCode;
-use std::{env, io};
-use t1_cli::t1_serial;
-use t1_io::{StdSink, StdSource};
+use t1_cli::{Status, t1_serial};
+use t1_io::{Sink, StdSink, StdSource, write_all};
 
-fn main(rt: HostRuntime) -> io::Result<ExitCode> {
-    let mut words = Vec::new(rt.alloc());
-    for word in env::args(&rt)?.skip(1) {
+/// The words after the program's name.
+fn words(alloc: Global, args: Args) -> io::Result<Vec<String>> {
+    let mut words = Vec::new(alloc);
+    for word in args.skip(1) {
         words.push(word)?;
     }
-    let mut input = StdSource::new(rt.stdin());
-    let mut out = StdSink::new(rt.stdout());
+    Ok(words)
+}
+
+/// The status where there are no words to serve: a word that is no text is no command.
+fn wordless<E: Sink>(error: io::Error, err: &mut E) -> Status {
+    if error.kind() == io::ErrorKind::OutOfMemory {
+        let _ = write_all(err, b"t1sim: out of memory\n");
+        Status::OutOfMemory
+    } else {
+        let _ = write_all(err, b"t1sim: usage\n");
+        Status::Usage
+    }
+}
+
+fn main(rt: HostRuntime) -> ExitCode {
     let mut err = StdSink::new(rt.stderr());
-    let status = t1_serial(rt.alloc(), words.as_slice(), &mut input, &mut out, &mut err);
-    Ok(ExitCode::from(status.code()))
+    let status = match env::args(&rt).and_then(|args| words(rt.alloc(), args)) {
+        Ok(words) => {
+            let mut input = StdSource::new(rt.stdin());
+            let mut out = StdSink::new(rt.stdout());
+            t1_serial(rt.alloc(), words.as_slice(), &mut input, &mut out, &mut err)
+        }
+        Err(error) => wordless(error, &mut err),
+    };
+    ExitCode::from(status.code())
 }
