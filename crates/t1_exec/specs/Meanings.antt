@@ -104,20 +104,24 @@ managed s i value = accessed s i value
 -- what an instruction that jumps nowhere does, but for going on; value is what its load or atomic read
 unfoldable pub acted : Strand → Insn → ℕ → Strand
 acted s (Sethi rd imm) value = with_reg s rd (imm * 1024)
-acted s (Alu op cc rd rs1 src) value = computed s cc rd (alu_result s op rs1 src)
 acted s (Shift op wide rd rs1 src) value = with_reg s rd (shift_of op wide (reg_of s rs1) (operand_of s src))
 acted s (Movcc cond wide rd src) value = with_reg_if (holds_of cond s.ccr wide) s rd (operand_of s src)
 acted s (Movr rcond rd rs1 src) value = with_reg_if (rholds_of rcond (reg_of s rs1)) s rd (operand_of s src)
 acted s i value = managed s i value
 
+-- after an instruction that is no operation: most go on to the next one
+unfoldable pub gone_on : Strand → Insn → ℕ → Strand
+gone_on s (Bpcc cond annul wide taken disp) value = branched_on_codes s cond wide annul (target_of s disp)
+gone_on s (Bicc cond annul disp) value = branched_on_codes s cond false annul (target_of s disp)
+gone_on s (Bpr rcond annul taken rs1 disp) value = branched s (rholds_of rcond (reg_of s rs1)) annul (target_of s disp)
+gone_on s (Call disp) value = jumped (with_reg s 15 s.pc) (target_of s disp)
+gone_on s (Jmpl rd rs1 src) value = jumped (with_reg s rd s.pc) (sum_of s rs1 src)
+gone_on s (Return rs1 src) value = jumped (in_windows s (windows_after_restore s.win)) (sum_of s rs1 src)
+gone_on s Done value = after_done s
+gone_on s Retry value = after_retry s
+gone_on s i value = advanced (acted s i value)
+
 -- the state after an instruction that takes no trap
 unfoldable pub after_of : Strand → Insn → ℕ → Strand
-after_of s (Bpcc cond annul wide taken disp) value = branched_on_codes s cond wide annul (target_of s disp)
-after_of s (Bicc cond annul disp) value = branched_on_codes s cond false annul (target_of s disp)
-after_of s (Bpr rcond annul taken rs1 disp) value = branched s (rholds_of rcond (reg_of s rs1)) annul (target_of s disp)
-after_of s (Call disp) value = jumped (with_reg s 15 s.pc) (target_of s disp)
-after_of s (Jmpl rd rs1 src) value = jumped (with_reg s rd s.pc) (sum_of s rs1 src)
-after_of s (Return rs1 src) value = jumped (in_windows s (windows_after_restore s.win)) (sum_of s rs1 src)
-after_of s Done value = after_done s
-after_of s Retry value = after_retry s
-after_of s i value = advanced (acted s i value)
+after_of s (Alu op cc rd rs1 src) value = advanced (computed s cc rd (alu_result s op rs1 src))
+after_of s i value = gone_on s i value

@@ -2,7 +2,7 @@
 ghost use Rattle.std.specs.Prelude.{◌≡◌, ◌<◌, ◌+◌, ◌^◌};
 ghost use Rattle.t1_insn.specs.Ranges.{IsInRange};
 ghost use Rattle.t1_state.specs.Registers.{IsStrand};
-ghost use Rattle.t1_exec.specs.Meanings.{managed, acted, after_of};
+ghost use Rattle.t1_exec.specs.Meanings.{managed, acted, gone_on, after_of};
 
 use crate::arithmetic::{alu_result, keep, move_on_codes, move_on_register};
 use crate::branches::{advance, branch_on_codes, branch_on_register, jump_and_link, jump_to};
@@ -19,6 +19,7 @@ use t1_win::{restore, restored, save, saved};
 const CALLER: u8 = 15;
 
 /// Moves between windows, and to and from the state registers; what is neither may access memory.
+#[inline(never)]
 #[tactic(auto, using(crate::proofs::Sources::readable), unfolding(crate::specs::Meanings::managed))]
 fn manage(strand: &mut Strand, insn: &Insn, value: u64)
     requires valid { IsStrand strand.old }
@@ -66,16 +67,6 @@ fn act(strand: &mut Strand, insn: &Insn, value: u64)
 {
     match *insn {
         Insn::Sethi { rd, imm } => strand.set_reg(rd, imm as u64 * 1024),
-        Insn::Alu {
-            op,
-            cc,
-            rd,
-            rs1,
-            src,
-        } => {
-            let outcome = alu_result(strand, op, rs1, src);
-            keep(strand, cc, rd, outcome);
-        }
         Insn::Shift {
             op,
             wide,
@@ -102,14 +93,13 @@ fn act(strand: &mut Strand, insn: &Insn, value: u64)
     }
 }
 
-/// The state after an instruction that takes no trap, with one unit more. `value` is what its
-/// load or atomic read, and 0 else; `ram` is the size of RAM in bytes.
-#[tactic(auto, using(crate::proofs::Sources::readable), unfolding(crate::specs::Meanings::after_of))]
-pub fn finish(strand: &mut Strand, insn: &Insn, value: u64, ram: u64)
+/// Does what an instruction that is no operation does, and goes on: most go to the next one.
+#[tactic(auto, using(crate::proofs::Sources::readable), unfolding(crate::specs::Meanings::gone_on))]
+fn go_on(strand: &mut Strand, insn: &Insn, value: u64)
     requires valid { IsStrand strand.old }
     requires fields { IsInRange insn.now }
     requires units { strand.old.units + 1 < 2 ^ 32 }
-    ensures value { strand.new ≡ after_of strand.old insn.now value }
+    ensures value { strand.new ≡ gone_on strand.old insn.now value }
     ensures units { strand.new.units ≡ strand.old.units + 1 }
     ensures valid { IsStrand strand.new }
 {
@@ -148,5 +138,32 @@ pub fn finish(strand: &mut Strand, insn: &Insn, value: u64, ram: u64)
             act(strand, insn, value);
             advance(strand);
         }
+    }
+}
+
+/// The state after an instruction that takes no trap, with one unit more. `value` is what its
+/// load or atomic read, and 0 else; `ram` is the size of RAM in bytes.
+#[tactic(auto, using(crate::proofs::Sources::readable), unfolding(crate::specs::Meanings::after_of))]
+pub fn finish(strand: &mut Strand, insn: &Insn, value: u64, ram: u64)
+    requires valid { IsStrand strand.old }
+    requires fields { IsInRange insn.now }
+    requires units { strand.old.units + 1 < 2 ^ 32 }
+    ensures value { strand.new ≡ after_of strand.old insn.now value }
+    ensures units { strand.new.units ≡ strand.old.units + 1 }
+    ensures valid { IsStrand strand.new }
+{
+    match *insn {
+        Insn::Alu {
+            op,
+            cc,
+            rd,
+            rs1,
+            src,
+        } => {
+            let outcome = alu_result(strand, op, rs1, src);
+            keep(strand, cc, rd, outcome);
+            advance(strand);
+        }
+        _ => go_on(strand, insn, value),
     }
 }

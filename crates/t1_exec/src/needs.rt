@@ -6,13 +6,14 @@ ghost use Rattle.t1_exec.specs.Needs.{IsRam, IsPlaced, atomic_of, need_of, halt_
 ghost use Rattle.t1_exec.specs.Accesses.{access_of};
 ghost use Rattle.t1_exec.specs.Served.{IsServedWhereMade};
 
+use crate::branches::jump_trap;
 use crate::memory::{cas_op, swap_op};
 use crate::need::{AtomicOp, Need};
 use crate::operands::{address, xor};
 use crate::spaces::{SCRATCHPAD, cas_space, is_little_endian, space};
 use crate::traps::first_trap;
 use crate::values::{cas_size, load_size, store_size, stored};
-use t1_insn::Insn;
+use t1_insn::{AluOp, Insn};
 use t1_state::Strand;
 
 /// The halt register.
@@ -71,10 +72,10 @@ fn atomic(strand: &Strand, insn: &Insn, _ram: u64) -> Need
     }
 }
 
-/// The first trap that applies to an instruction, or else what it needs. `ram` is the size of
-/// RAM in bytes.
+/// The first trap that applies to an instruction, or else what it asks for.
+#[inline(never)]
 #[tactic(auto, using(crate::proofs::Sources::readable), unfolding(crate::specs::Needs::need_of, crate::specs::Needs::asked_of, crate::specs::Needs::atomic_of, crate::specs::Accesses::access_of))]
-pub fn issue(strand: &Strand, insn: &Insn, ram: u64) -> Need
+fn ask(strand: &Strand, insn: &Insn, ram: u64) -> Need
     requires valid { IsStrand strand.now }
     requires fields { IsInRange insn.now }
     requires ram { IsRam ram }
@@ -102,5 +103,41 @@ pub fn issue(strand: &Strand, insn: &Insn, ram: u64) -> Need
         Insn::Flush { .. } => Need::Flush,
         Insn::WriteAsr { asr, rs1, src } => halt_or_plain(asr, xor(strand, rs1, src)),
         _ => atomic(strand, insn, ram),
+    }
+}
+
+/// The first trap that applies to an instruction, or else what it needs. `ram` is the size of
+/// RAM in bytes.
+///
+/// What can neither trap nor ask for anything is answered without a look at the strand.
+#[inline]
+#[tactic(auto, unfolding(crate::specs::Needs::need_of, crate::specs::Needs::asked_of, crate::specs::Needs::atomic_of, crate::specs::Accesses::access_of, crate::specs::Arithmetic::alu_result, t1_alu::specs::Arithmetic::alu_of, crate::specs::Traps::illegal_trap, crate::specs::Traps::privilege_trap, crate::specs::Traps::level_trap, crate::specs::Traps::floating_trap, crate::specs::Traps::window_trap, crate::specs::Traps::operation_trap, crate::specs::Traps::jump_trap, crate::specs::Branches::jump_of, crate::specs::Traps::access_trap))]
+pub fn issue(strand: &Strand, insn: &Insn, ram: u64) -> Need
+    requires valid { IsStrand strand.now }
+    requires fields { IsInRange insn.now }
+    requires ram { IsRam ram }
+    ensures value { result ≡ need_of strand.now insn.now ram }
+    ensures placed { IsPlaced ram result }
+{
+    match *insn {
+        Insn::Sethi { .. } | Insn::Shift { .. } | Insn::Movcc { .. } | Insn::Movr { .. } => {
+            Need::Plain
+        }
+        Insn::Alu { op, .. } => match op {
+            AluOp::Udivx
+            | AluOp::Sdivx
+            | AluOp::Udiv
+            | AluOp::Sdiv
+            | AluOp::TaddccTv
+            | AluOp::TsubccTv => ask(strand, insn, ram),
+            _ => Need::Plain,
+        },
+        Insn::Bpcc { .. } | Insn::Bicc { .. } | Insn::Bpr { .. } | Insn::Call { .. } => {
+            match jump_trap(strand, insn) {
+                None => Need::Plain,
+                Some(number) => Need::Trap(number),
+            }
+        }
+        _ => ask(strand, insn, ram),
     }
 }
