@@ -14,8 +14,8 @@ use Rattle.t1_cli.specs.declared.status.Status.TheVariants as status
 use Rattle.t1_cli.specs.declared.verdict.Verdict.{Verdict}
 use Rattle.t1_cli.specs.declared.verdict.Verdict.TheVariants as verdict
 use Rattle.t1_cli.specs.FirstForm.{is_first_form, is_header, is_segment, is_entry, most_input}
-use Rattle.t1_cli.specs.Outcome.{outcome_of, outcome_of_form, status_of, line_of, fault_line}
-use Rattle.t1_cli.specs.Serial.{WasLeft, HasText, PrintsRun, PrintsFront, IsRefused, Refuses, Answers, AnswersInput, TellsLine, Tells}
+use Rattle.t1_cli.specs.Outcome.{outcome_of, outcome_of_form, status_of}
+use Rattle.t1_cli.specs.Serial.{WasLeft, HasText, PrintsRun, PrintsFront, IsRefused, Refuses, Answers, AnswersInput, TellsLine}
 use Rattle.t1_cli.specs.Verdict.{status_of_verdict, verdict_line_of, Judged, Serves}
 
 -- ---- lines on err
@@ -59,24 +59,3 @@ serves_too_long None left' old new gave = record { input = gave.0; read = tt; ju
 serves_too_long (Some left) None old new gave = absurd gave.1
 serves_too_long (Some left) (Some rest) old new gave =
     record { input = left; read = refl; judged = too_long left (longer left rest gave.0 most_input gave.1 gave.2) }
-
--- ---- the line of a status
-
--- the line of a verdict is that of its status on what came of the input
-line_is : (v : Verdict) (left old new : Option (List ℕ)) (s : Serves left old new v) → verdict_line_of v ≡ line_of (status_of_verdict v) (outcome_of s.input)
-unfolding verdict_line_of
-line_is verdict.Good left old new s = refl
-line_is verdict.Usage left old new s = refl
-line_is verdict.OneSegmentOnly left old new s = sym (ap (line_of status.Refused) s.judged)
-line_is (verdict.NotBuilt pc) left old new s = sym (ap (line_of status.Refused) s.judged)
-line_is (verdict.Fault number pc) left old new s = ap (fault_line number) (sym s.judged.at) ∙ sym (ap (line_of status.Fault) s.judged.outcome)
-line_is verdict.Spent left old new s = refl
-line_is verdict.ReadFault left old new s = refl
-line_is verdict.WriteFault left old new s = refl
-line_is verdict.OutOfMemory left old new s = refl
-
-pub tells : (v : Verdict) (left old new : Option (List ℕ)) (f f' : ℕ) (err err' : Option (List ℕ)) (line : List ℕ) → Serves left old new v
-    → line ≡ verdict_line_of v → TellsLine f f' err err' line → Tells left f f' err err' (status_of_verdict v)
-tells v left old new f f' err err' line s is told_line =
-    let P : List ℕ → Type 0 = λ l. TellsLine f f' err err' l in
-    record { input = s.input; read = s.read; told = subst P (is ∙ line_is v left old new s) told_line }

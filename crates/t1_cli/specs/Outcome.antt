@@ -77,31 +77,3 @@ not_built_line pc = codes "t1sim: not built at " ++ (hex_of 16 pc ++ codes "\n")
 
 abbrev pub fault_line : ℕ → ℕ → List ℕ
 fault_line number pc = codes "t1sim: strand 0 fault " ++ (hex_of 3 number ++ (codes " at " ++ (hex_of 16 pc ++ codes "\n")))
-
--- why an input is refused
-abbrev pub refusal_of : Outcome → List ℕ
-refusal_of Misformed = codes "t1sim: elf OneSegmentOnly\n"
-refusal_of (NotBuilt pc) = not_built_line pc
-refusal_of (Ran ending report) = []
-
-abbrev pub fault_of_ending : Ending → Report → List ℕ
-fault_of_ending ending.Halted report = []
-fault_of_ending ending.Spent report = []
-fault_of_ending (ending.Fault number) report = fault_line number (pc_of report.traces)
-
--- how a strand faulted
-abbrev pub fault_of : Outcome → List ℕ
-fault_of Misformed = []
-fault_of (NotBuilt pc) = []
-fault_of (Ran ending report) = fault_of_ending ending report
-
--- the line of a status on err
-abbrev pub line_of : Status → Outcome → List ℕ
-line_of status.Good outcome = []
-line_of status.Usage outcome = codes "t1sim: usage\n"
-line_of status.Refused outcome = refusal_of outcome
-line_of status.Fault outcome = fault_of outcome
-line_of status.Spent outcome = codes "t1sim: strand 0 spent\n"
-line_of status.ReadFault outcome = codes "t1sim: read fault\n"
-line_of status.WriteFault outcome = codes "t1sim: write fault\n"
-line_of status.OutOfMemory outcome = codes "t1sim: out of memory\n"

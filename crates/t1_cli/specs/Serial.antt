@@ -9,7 +9,7 @@ use Rattle.t1_cli.specs.declared.outcome.Outcome.{Outcome}
 use Rattle.t1_cli.specs.declared.outcome.Outcome.TheVariants.{Misformed, NotBuilt, Ran}
 use Rattle.t1_cli.specs.declared.status.Status.{Status}
 use Rattle.t1_cli.specs.declared.status.Status.TheVariants as status
-use Rattle.t1_cli.specs.Outcome.{outcome_of, status_of, status_of_ending, line_of}
+use Rattle.t1_cli.specs.Outcome.{outcome_of, status_of, status_of_ending}
 use Rattle.t1_cli.specs.Printed.{IsReportOfInput}
 
 -- there is one word, with these bytes
@@ -95,9 +95,3 @@ AnswersInput (Some left) result = Answers result (status_of (outcome_of left))
 pub record TellsLine (faults faults' : ℕ) (old new : Option (List ℕ)) (line : List ℕ) : Type 0 where
   pub whole : (Rose faults faults' → ⊥) → Grew old new line
   pub front : GrewPart old new line
-
--- the line of a status on what came of the input
-pub record Tells (left : Option (List ℕ)) (faults faults' : ℕ) (old new : Option (List ℕ)) (result : Status) : Type 0 where
-  pub input : List ℕ
-  pub read : WasLeft left input
-  pub told : TellsLine faults faults' old new (line_of result (outcome_of input))

@@ -13,7 +13,7 @@ use Rattle.t1_cli.specs.declared.verdict.Verdict.{Verdict}
 use Rattle.t1_cli.specs.declared.verdict.Verdict.TheVariants as verdict
 use Rattle.t1_cli.specs.Outcome.{outcome_of, pc_of, fault_line, not_built_line}
 use Rattle.t1_cli.specs.Printed.{IsReportOfInput}
-use Rattle.t1_cli.specs.Serial.{WasLeft}
+use Rattle.t1_cli.specs.Serial.{WasLeft, TellsLine}
 
 abbrev pub status_of_verdict : Verdict → Status
 status_of_verdict verdict.Good = status.Good
@@ -78,3 +78,10 @@ pub record Serves (left old new : Option (List ℕ)) (verdict : Verdict) : Type 
   pub input : List ℕ
   pub read : WasLeft left input
   pub judged : Judged input old new verdict
+
+-- one verdict on one input has the status, and its line is told
+pub record Tells (left out out' : Option (List ℕ)) (faults faults' : ℕ) (err err' : Option (List ℕ)) (result : Status) : Type 0 where
+  pub verdict : Verdict
+  pub status_is : status_of_verdict verdict ≡ result
+  pub serves : Serves left out out' verdict
+  pub told : TellsLine faults faults' err err' (verdict_line_of verdict)

@@ -1,11 +1,12 @@
 //! The serial command: words, an input and two outputs in, a status out.
 ghost use Rattle.std.specs.Prelude.{ℕ, List, ◌≡◌, ◌≢◌, ◌↔◌, ◌<◌, ◌^◌, ◌++◌, length, codes, string_bytes, IsTrue, OnOk, OnErr, IfOk};
+ghost use Rattle.std.specs.Io.KnownBytes.{IsAtEnd};
 ghost use Rattle.t1_io.specs.Causes.{Rose};
 ghost use Rattle.t1_io.specs.Held.{Grew, GrewPart};
 ghost use Rattle.t1_log.specs.Hex.{hex_of};
 ghost use Rattle.t1_cli.specs.Outcome.{pc_of, fault_line, not_built_line};
-ghost use Rattle.t1_cli.specs.Serial.{IsOneWord, HasText, HasNoText, PrintsRun, PrintsFront, Refuses, AnswersInput, TellsLine, Tells};
-ghost use Rattle.t1_cli.specs.Verdict.{status_of_verdict, verdict_line_of, Judged, Serves};
+ghost use Rattle.t1_cli.specs.Serial.{IsOneWord, HasText, HasNoText, PrintsRun, PrintsFront, Refuses, AnswersInput, TellsLine};
+ghost use Rattle.t1_cli.specs.Verdict.{status_of_verdict, verdict_line_of, Judged, Serves, Tells};
 
 use crate::first_form::MOST_INPUT;
 use crate::outcome::Outcome;
@@ -134,6 +135,7 @@ fn serve<S: Source, K: Sink>(alloc: Global, words: &[String], input: &mut S, out
     ensures unchanged { HasNoText (status_of_verdict result) → out.new ≡ out.old }
     ensures read_fault { result ≡ Verdict.ReadFault → Rose (S.faults input.old) (S.faults input.new) }
     ensures write_fault { result ≡ Verdict.WriteFault → Rose (K.faults out.old) (K.faults out.new) }
+    ensures end { HasText (status_of_verdict result) → IsAtEnd (S.left input.new) }
 {
     if !is_run(words) {
         return Verdict::Usage;
@@ -170,11 +172,14 @@ pub fn t1_serial<S: Source, K: Sink, E: Sink>(
     ensures read_fault { result ≡ Status.ReadFault → Rose (S.faults input.old) (S.faults input.new) }
     ensures write_fault { result ≡ Status.WriteFault → Rose (K.faults out.old) (K.faults out.new) }
 
+    // What is read.
+    ensures end { HasText result → IsAtEnd (S.left input.new) }
+
     // What is written.
     ensures ran { HasText result → PrintsRun (S.left input.old) (K.held out.old) (K.held out.new) result }
     ensures front { result ≡ Status.WriteFault → PrintsFront (S.left input.old) (K.held out.old) (K.held out.new) }
     ensures unchanged { HasNoText result → out.new ≡ out.old }
-    ensures line { Tells (S.left input.old) (E.faults err.old) (E.faults err.new) (E.held err.old) (E.held err.new) result }
+    ensures line { Tells (S.left input.old) (K.held out.old) (K.held out.new) (E.faults err.old) (E.faults err.new) (E.held err.old) (E.held err.new) result }
 {
     let verdict = serve(alloc, words, input, out);
     tell(err, verdict.line().as_slice());

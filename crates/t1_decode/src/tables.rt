@@ -1,4 +1,5 @@
-//! The rows of the word table that a reader and a writer of words share.
+//! The rows of the word table by op3, of which a writer of words takes those of arithmetic, shifts,
+//! loads and stores.
 //!
 //! Each macro hands its rows to the macro that it is given, after the names that it is given. The
 //! numbers are those of op3.

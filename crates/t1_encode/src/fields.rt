@@ -123,7 +123,8 @@ pub fn number_source(bits: u32, src: Src) -> Option<u32>
     }
 }
 
-/// The bits from 13 down of an access, without those of the op3.
+/// The bits from 13 down of an access: i, the address space where it stands there, and the second
+/// operand.
 #[tactic(auto, unfolding(crate::specs::Fields::mem_bits))]
 pub fn operand(mem: Mem) -> Option<u32>
     ensures value { result ≡ mem_bits mem }

@@ -1,7 +1,7 @@
 //! The word of each instruction: the word table the other way.
 //!
-//! The assembler and the guest generator write words by `encode`, and `decode` of a word that it
-//! gives is the instruction again. `specs/Words.antt` draws the formats.
+//! `decode` of a word that `encode` gives is the instruction again. `specs/Words.antt` draws the
+//! formats.
 #![tactic(auto)]
 
 mod fields;

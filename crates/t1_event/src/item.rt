@@ -16,7 +16,7 @@ pub enum ItemKind {
 /// Where an access stands among the accesses of all strands.
 #[derive(Clone, Copy, Debug, PartialEq, Eq)]
 pub enum How {
-    /// It has no place: a membar, a flush, or an access that no machine has placed.
+    /// Nothing is said of where: a membar, a flush, or an access that no machine has placed.
     Unplaced,
     /// A load that its own store buffer answered, at this time of its core.
     Forward { time: u32 },

@@ -142,7 +142,7 @@ fn go_on(strand: &mut Strand, insn: &Insn, value: u64)
 }
 
 /// The state after an instruction that takes no trap, with one unit more. `value` is what its
-/// load or atomic read, and 0 else; `ram` is the size of RAM in bytes.
+/// load or atomic read, and 0 else. No meaning depends on `ram`, the size of RAM in bytes.
 #[tactic(auto, using(crate::proofs::Sources::readable), unfolding(crate::specs::Meanings::after_of))]
 pub fn finish(strand: &mut Strand, insn: &Insn, value: u64, ram: u64)
     requires valid { IsStrand strand.old }

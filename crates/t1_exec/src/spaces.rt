@@ -1,13 +1,9 @@
 //! Privileged mode, and the address space of an access (SPARC V9, 6.3.1.3).
 ghost use Rattle.std.specs.Prelude.{◌≡◌};
-ghost use Rattle.t1_space.specs.Spaces.{is_little};
 ghost use Rattle.t1_exec.specs.Spaces.{is_privileged, implicit_space, space_of, cas_space, is_implicit};
 
 use t1_insn::Mem;
 use t1_state::Strand;
-
-/// The space of the scratchpad registers.
-pub(crate) const SCRATCHPAD: u8 = 0x20;
 
 /// Whether the strand is in privileged mode.
 pub(crate) fn is_privileged(strand: &Strand) -> bool
@@ -58,11 +54,4 @@ pub(crate) fn is_implicit(mem: Mem) -> bool
     ensures { result ≡ is_implicit mem }
 {
     matches!(mem, Mem::Plain(_))
-}
-
-/// Whether values in a space are little-endian.
-pub(crate) fn is_little_endian(space: u8) -> bool
-    ensures { result ≡ is_little space }
-{
-    space >> 3 & 1 == 1
 }

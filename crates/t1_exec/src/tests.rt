@@ -91,7 +91,8 @@ fn strand(privileged: bool, level: u8, stand: Stand) -> Strand
     strand
 }
 
-/// An instruction; those of alternate spaces have their ASI.
+/// An instruction; those of alternate spaces have their ASI, and ReadPr and WritePr the number of
+/// a register of the trap level.
 #[derive(Clone, Copy, Debug)]
 enum What {
     Illegal,
@@ -99,9 +100,9 @@ enum What {
     Done,
     Retry,
     Saved,
-    ReadTt,
+    ReadPr(u8),
     ReadTba,
-    WriteTpc,
+    WritePr(u8),
     ReadSoftint,
     Halt,
     Save,
@@ -142,9 +143,13 @@ fn insn(what: What, at: u8) -> Insn
         What::Done => Insn::Done,
         What::Retry => Insn::Retry,
         What::Saved => Insn::Saved,
-        What::ReadTt => Insn::ReadPr { reg: 3, rd },
+        What::ReadPr(reg) => Insn::ReadPr { reg: reg & 3, rd },
         What::ReadTba => Insn::ReadPr { reg: 5, rd },
-        What::WriteTpc => Insn::WritePr { reg: 0, rs1, src },
+        What::WritePr(reg) => Insn::WritePr {
+            reg: reg & 3,
+            rs1,
+            src,
+        },
         What::ReadSoftint => Insn::ReadAsr { asr: 22, rd },
         What::Halt => Insn::WriteAsr { asr: 26, rs1, src },
         What::Save => Insn::Save { rd, rs1, src },
@@ -234,74 +239,110 @@ fn insn(what: What, at: u8) -> Insn
     }
 }
 
+/// An instruction, the register of its address, the mode, the trap level, the windows; and the trap.
+type Row = (What, u8, bool, u8, Stand, u16);
+
+// In each of these states two traps or more apply.
+const SEVERAL: &[Row] = &[
+    // Privileged mode before the trap level.
+    (What::Done, 0, USER, 0, Stand::Start, 0x011),
+    (What::Retry, 0, USER, 0, Stand::Full, 0x011),
+    (What::ReadPr(0), 0, USER, 0, Stand::Start, 0x011),
+    (What::ReadPr(1), 0, USER, 0, Stand::Start, 0x011),
+    (What::ReadPr(2), 0, USER, 0, Stand::Start, 0x011),
+    (What::ReadPr(3), 0, USER, 0, Stand::Start, 0x011),
+    (What::WritePr(0), 0, USER, 0, Stand::Start, 0x011),
+    (What::WritePr(1), 1, USER, 0, Stand::Start, 0x011),
+    (What::WritePr(2), 2, USER, 0, Stand::Start, 0x011),
+    (What::WritePr(3), 3, USER, 0, Stand::Start, 0x011),
+    // Windows: spill before clean, and fill before a target.
+    (What::Save, 0, USER, 0, Stand::Full, 0x088),
+    (What::Return, 1, USER, 0, Stand::Start, 0x0c8),
+    (What::Return, 1, PRIVILEGED, 1, Stand::Other, 0x0f4),
+    // Misaligned before restricted, before a space that is none, before a place that is none.
+    (What::Load(0x10), 1, USER, 0, Stand::Start, 0x034),
+    (What::Load(0x20), 1, USER, 0, Stand::Start, 0x034),
+    (What::Load(0x21), 1, PRIVILEGED, 0, Stand::Start, 0x034),
+    (What::Load(0x21), 3, USER, 0, Stand::Start, 0x034),
+    (What::Load(0x21), 6, USER, 0, Stand::Start, 0x034),
+    (What::LoadTwin(0x20), 1, PRIVILEGED, 0, Stand::Start, 0x034),
+    (What::LoadTwin(0x20), 3, USER, 0, Stand::Start, 0x034),
+    (What::Store(0x20), 1, USER, 0, Stand::Start, 0x034),
+    (What::Store(0x21), 3, USER, 0, Stand::Start, 0x034),
+    (What::Store(0x82), 1, USER, 0, Stand::Start, 0x034),
+    (What::Store(0x83), 3, USER, 0, Stand::Start, 0x034),
+    (What::StoreByRegister, 3, USER, 0, Stand::Start, 0x034),
+    (What::Swap(0x20), 1, PRIVILEGED, 0, Stand::Start, 0x034),
+    (What::Swap(0x21), 3, USER, 0, Stand::Start, 0x034),
+    (What::Swap(0x80), 6, USER, 0, Stand::Start, 0x034),
+    (What::Cas(0x18), 3, USER, 0, Stand::Start, 0x034),
+    (What::Cas(0x21), 3, USER, 0, Stand::Start, 0x034),
+    (What::Cas(0x80), 6, USER, 0, Stand::Start, 0x034),
+    (What::PlainLoad, 3, USER, 1, Stand::Start, 0x034),
+    (What::PlainStore, 3, USER, 0, Stand::Start, 0x034),
+    // Restricted before a space that is none, before a place that is none.
+    (What::Load(0x21), 2, USER, 0, Stand::Start, 0x037),
+    (What::Load(0x14), 2, USER, 1, Stand::Start, 0x037),
+    (What::LoadByte(0x20), 2, USER, 0, Stand::Start, 0x037),
+    (What::Store(0x7f), 2, USER, 0, Stand::Start, 0x037),
+    (What::Ldstub(0x21), 2, USER, 0, Stand::Start, 0x037),
+    (What::Ldstub(0x21), 5, USER, 0, Stand::Start, 0x037),
+    (What::Swap(0x14), 5, USER, 0, Stand::Start, 0x037),
+    (What::Cas(0x18), 2, USER, 0, Stand::Start, 0x037),
+    // No space, or none for it, before a place that is none.
+    (What::Load(0x21), 2, PRIVILEGED, 0, Stand::Start, 0x030),
+    (What::Load(0x84), 2, USER, 0, Stand::Start, 0x030),
+    (What::Store(0x8b), 2, USER, 0, Stand::Start, 0x030),
+    (What::StoreByRegister, 2, USER, 0, Stand::Start, 0x030),
+    (What::Ldstub(0x83), 2, USER, 0, Stand::Start, 0x030),
+    (What::Swap(0x82), 2, USER, 0, Stand::Start, 0x030),
+    (What::Cas(0x21), 2, PRIVILEGED, 0, Stand::Start, 0x030),
+];
+
+// In each of these states one trap applies.
+const ALONE: &[Row] = &[
+    // No instruction, and the floating-point unit.
+    (What::Illegal, 0, USER, 0, Stand::Full, 0x010),
+    (What::Illegal, 0, PRIVILEGED, 1, Stand::Other, 0x010),
+    (What::FpOff, 1, USER, 0, Stand::Full, 0x020),
+    // Privileged mode, and the trap level.
+    (What::Done, 0, USER, 1, Stand::Start, 0x011),
+    (What::Done, 0, PRIVILEGED, 0, Stand::Full, 0x010),
+    (What::Retry, 0, PRIVILEGED, 0, Stand::Start, 0x010),
+    (What::ReadPr(3), 0, PRIVILEGED, 0, Stand::Start, 0x010),
+    (What::WritePr(0), 0, PRIVILEGED, 0, Stand::Start, 0x010),
+    (What::ReadTba, 0, USER, 0, Stand::Start, 0x011),
+    (What::Saved, 0, USER, 0, Stand::Full, 0x011),
+    (What::ReadSoftint, 0, USER, 1, Stand::Start, 0x011),
+    (What::Halt, 0, USER, 0, Stand::Start, 0x011),
+    // Windows and targets.
+    (What::Save, 0, PRIVILEGED, 0, Stand::Other, 0x0b4),
+    (What::Save, 0, USER, 0, Stand::Unclean, 0x024),
+    (What::Flushw, 0, USER, 0, Stand::Other, 0x0b4),
+    (What::Restore, 0, USER, 0, Stand::Other, 0x0f4),
+    (What::Return, 1, USER, 0, Stand::Middle, 0x034),
+    (What::Jmpl, 1, USER, 0, Stand::Full, 0x034),
+    // Operations.
+    (What::Divide, 0, USER, 0, Stand::Full, 0x028),
+    (What::Tagged, 7, USER, 0, Stand::Full, 0x023),
+    (What::TrapAlways, 7, USER, 0, Stand::Full, 0x17f),
+    (What::TrapAlways, 7, PRIVILEGED, 0, Stand::Full, 0x1ff),
+    // Accesses.
+    (What::Load(0x20), 4, PRIVILEGED, 0, Stand::Start, 0x030),
+    (What::LoadByte(0x20), 4, PRIVILEGED, 0, Stand::Start, 0x030),
+    (What::Swap(0x80), 5, USER, 0, Stand::Start, 0x030),
+    (What::Cas(0x90), 4, USER, 0, Stand::Start, 0x030),
+    (What::Cas(0x80), 2, USER, 0, Stand::Start, 0x032),
+    (What::PlainLoad, 2, USER, 1, Stand::Start, 0x032),
+];
+
 #[test]
 fn the_first_trap_of_several_is_taken(rt: HostRuntime) {
-    for (what, at, privileged, level, stand, want) in [
-        // No instruction, and the floating-point unit.
-        (What::Illegal, 0, USER, 0, Stand::Full, 0x010),
-        (What::Illegal, 0, PRIVILEGED, 1, Stand::Other, 0x010),
-        (What::FpOff, 1, USER, 0, Stand::Full, 0x020),
-        // Privileged mode, and then the trap level.
-        (What::Done, 0, USER, 0, Stand::Start, 0x011),
-        (What::Done, 0, USER, 1, Stand::Start, 0x011),
-        (What::Done, 0, PRIVILEGED, 0, Stand::Full, 0x010),
-        (What::Retry, 0, USER, 0, Stand::Start, 0x011),
-        (What::Retry, 0, PRIVILEGED, 0, Stand::Start, 0x010),
-        (What::ReadTt, 0, USER, 0, Stand::Start, 0x011),
-        (What::ReadTt, 0, PRIVILEGED, 0, Stand::Start, 0x010),
-        (What::WriteTpc, 0, USER, 0, Stand::Start, 0x011),
-        (What::WriteTpc, 0, PRIVILEGED, 0, Stand::Start, 0x010),
-        (What::ReadTba, 0, USER, 0, Stand::Start, 0x011),
-        (What::Saved, 0, USER, 0, Stand::Full, 0x011),
-        (What::ReadSoftint, 0, USER, 1, Stand::Start, 0x011),
-        (What::Halt, 0, USER, 0, Stand::Start, 0x011),
-        // Windows: spill before clean, and both before a target.
-        (What::Save, 0, USER, 0, Stand::Full, 0x088),
-        (What::Save, 0, PRIVILEGED, 0, Stand::Other, 0x0b4),
-        (What::Save, 0, USER, 0, Stand::Unclean, 0x024),
-        (What::Flushw, 0, USER, 0, Stand::Other, 0x0b4),
-        (What::Restore, 0, USER, 0, Stand::Other, 0x0f4),
-        (What::Return, 1, USER, 0, Stand::Start, 0x0c8),
-        (What::Return, 1, PRIVILEGED, 1, Stand::Other, 0x0f4),
-        (What::Return, 1, USER, 0, Stand::Middle, 0x034),
-        (What::Jmpl, 1, USER, 0, Stand::Full, 0x034),
-        // Operations.
-        (What::Divide, 0, USER, 0, Stand::Full, 0x028),
-        (What::Tagged, 7, USER, 0, Stand::Full, 0x023),
-        (What::TrapAlways, 7, USER, 0, Stand::Full, 0x17f),
-        (What::TrapAlways, 7, PRIVILEGED, 0, Stand::Full, 0x1ff),
-        // Accesses: misaligned, restricted, no space or none for it, no place.
-        (What::Load(0x21), 3, USER, 0, Stand::Start, 0x034),
-        (What::Load(0x10), 1, USER, 0, Stand::Start, 0x034),
-        (What::Load(0x20), 1, USER, 0, Stand::Start, 0x034),
-        (What::LoadTwin(0x20), 1, PRIVILEGED, 0, Stand::Start, 0x034),
-        (What::Store(0x82), 1, USER, 0, Stand::Start, 0x034),
-        (What::StoreByRegister, 3, USER, 0, Stand::Start, 0x034),
-        (What::Swap(0x80), 6, USER, 0, Stand::Start, 0x034),
-        (What::Cas(0x21), 3, USER, 0, Stand::Start, 0x034),
-        (What::PlainLoad, 3, USER, 1, Stand::Start, 0x034),
-        (What::PlainStore, 3, USER, 0, Stand::Start, 0x034),
-        (What::Load(0x21), 2, USER, 0, Stand::Start, 0x037),
-        (What::Load(0x14), 2, USER, 1, Stand::Start, 0x037),
-        (What::LoadByte(0x20), 2, USER, 0, Stand::Start, 0x037),
-        (What::Store(0x7f), 2, USER, 0, Stand::Start, 0x037),
-        (What::Ldstub(0x21), 5, USER, 0, Stand::Start, 0x037),
-        (What::Swap(0x14), 5, USER, 0, Stand::Start, 0x037),
-        (What::Cas(0x18), 2, USER, 0, Stand::Start, 0x037),
-        (What::Load(0x21), 2, PRIVILEGED, 0, Stand::Start, 0x030),
-        (What::Load(0x84), 2, USER, 0, Stand::Start, 0x030),
-        (What::Load(0x20), 4, PRIVILEGED, 0, Stand::Start, 0x030),
-        (What::LoadByte(0x20), 2, PRIVILEGED, 0, Stand::Start, 0x030),
-        (What::Store(0x8b), 2, USER, 0, Stand::Start, 0x030),
-        (What::StoreByRegister, 2, USER, 0, Stand::Start, 0x030),
-        (What::Swap(0x82), 2, USER, 0, Stand::Start, 0x030),
-        (What::Swap(0x80), 5, USER, 0, Stand::Start, 0x030),
-        (What::Cas(0x90), 5, USER, 0, Stand::Start, 0x030),
-        (What::Cas(0x80), 2, USER, 0, Stand::Start, 0x032),
-        (What::PlainLoad, 2, USER, 1, Stand::Start, 0x032),
-    ] {
-        let need = issue(&strand(privileged, level, stand), &insn(what, at), RAM);
-        assert_eq!(rt; need, Need::Trap(want), "{what:?} at %g{at}, {stand:?}");
+    for table in [SEVERAL, ALONE] {
+        for (what, at, privileged, level, stand, want) in table {
+            let need = issue(&strand(*privileged, *level, *stand), &insn(*what, *at), RAM);
+            assert_eq!(rt; need, Need::Trap(*want), "{what:?} at %g{at}, {stand:?}");
+        }
     }
 }
 
@@ -467,6 +508,39 @@ fn loads_and_stores_extend_and_reverse(rt: HostRuntime) {
             value,
         };
         assert_eq!(rt; store(kind, asi), want, "{kind:?} in {asi:x}");
+    }
+}
+
+/// A strand at a trap level, with the order of bytes that PSTATE gives to its plain accesses.
+fn ordered(little: bool, level: u8) -> Strand
+    ensures units { result.units ≡ 0 }
+    ensures valid { IsStrand result }
+{
+    let mut strand = Strand {
+        pstate: if little { 0x204 } else { 4 },
+        tl: level % 2,
+        ..Strand::start(0, 1, 0x100)
+    };
+    strand.set_reg(2, 0x1122_3344_5566_7788);
+    strand.set_reg(4, 0x100);
+    strand
+}
+
+#[test]
+fn a_plain_access_has_the_order_of_pstate(rt: HostRuntime) {
+    for (little, level, value) in [
+        (false, 0, 0x1122_3344_5566_7788),
+        (true, 0, 0x8877_6655_4433_2211),
+        (false, 1, 0x1122_3344_5566_7788),
+        (true, 1, 0x8877_6655_4433_2211),
+    ] {
+        let need = issue(&ordered(little, level), &insn(What::PlainStore, 4), RAM);
+        let want = Need::Store {
+            addr: 0x100,
+            size: 8,
+            value,
+        };
+        assert_eq!(rt; need, want, "level {level}");
     }
 }
 

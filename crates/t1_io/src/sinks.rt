@@ -20,7 +20,7 @@ pub trait Sink {
     ///
     /// # Errors
     ///
-    /// [`Failed`] where the count of faults rose. Nothing is appended then.
+    /// [`Failed`] only where the count of faults rose. Nothing is appended then.
     fn write(&mut self, piece: &[u8]) -> Result<usize, Failed>
         ensures bound { WritesAtMost result piece.now }
         ensures bytes { WriteGrew (held self.old) (held self.new) result piece.now }

@@ -20,7 +20,7 @@ pub trait Source {
     ///
     /// # Errors
     ///
-    /// [`Failed`] where the count of faults rose. No byte is taken then, and the piece is left as
+    /// [`Failed`] only where the count of faults rose. No byte is taken then, and the piece is left as
     /// it was.
     fn read(&mut self, piece: &mut [u8]) -> Result<usize, Failed>
         ensures bound { ReadsAtMost result piece.new }
