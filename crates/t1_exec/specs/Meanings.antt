@@ -89,7 +89,7 @@ accessed s (Swap rd rs1 mem) value = with_reg s rd (in_order (is_little (space_o
 accessed s (Cas wide rd rs1 rs2 asi) value = with_reg s rd (in_order (is_little (cas_space s asi)) (cas_size wide) value)
 accessed s _ value = s
 
--- what a move between windows, or to or from a state register, does; another instruction that is no operation may access memory
+-- what a move between windows, or to or from a state register, does; the rest are accesses, or do nothing
 unfoldable pub managed : Strand → Insn → ℕ → Strand
 managed s (Save rd rs1 src) value = moved s (windows_after_save s.win) rd (sum_of s rs1 src)
 managed s (Restore rd rs1 src) value = moved s (windows_after_restore s.win) rd (sum_of s rs1 src)
@@ -101,7 +101,7 @@ managed s (ReadPr reg rd) value = with_privileged_read s reg rd
 managed s (WritePr reg rs1 src) value = with_privileged_written s reg (xor_of s rs1 src)
 managed s i value = accessed s i value
 
--- what an instruction that jumps nowhere does, but for going on; value is what its load or atomic read
+-- what an instruction that is no operation and jumps nowhere does, but for going on; value is what its load or atomic read
 unfoldable pub acted : Strand → Insn → ℕ → Strand
 acted s (Sethi rd imm) value = with_reg s rd (imm * 1024)
 acted s (Shift op wide rd rs1 src) value = with_reg s rd (shift_of op wide (reg_of s rs1) (operand_of s src))
@@ -109,7 +109,7 @@ acted s (Movcc cond wide rd src) value = with_reg_if (holds_of cond s.ccr wide) 
 acted s (Movr rcond rd rs1 src) value = with_reg_if (rholds_of rcond (reg_of s rs1)) s rd (operand_of s src)
 acted s i value = managed s i value
 
--- after an instruction that is no operation: most go on to the next one
+-- the state after an instruction that is no operation and takes no trap: most go on to the next one
 unfoldable pub gone_on : Strand → Insn → ℕ → Strand
 gone_on s (Bpcc cond annul wide taken disp) value = branched_on_codes s cond wide annul (target_of s disp)
 gone_on s (Bicc cond annul disp) value = branched_on_codes s cond false annul (target_of s disp)

@@ -18,7 +18,7 @@ use t1_win::{restore, restored, save, saved};
 /// The register in which a call leaves its address, %o7.
 const CALLER: u8 = 15;
 
-/// Moves between windows, and to and from the state registers; what is neither may access memory.
+/// Moves between windows, and to and from the state registers; the rest are accesses, or do nothing.
 #[inline(never)]
 #[tactic(auto, using(crate::proofs::Sources::readable), unfolding(crate::specs::Meanings::managed))]
 fn manage(strand: &mut Strand, insn: &Insn, value: u64)
@@ -56,7 +56,7 @@ fn manage(strand: &mut Strand, insn: &Insn, value: u64)
     }
 }
 
-/// Does what an instruction that jumps nowhere does, but for going on.
+/// Does what an instruction that is no operation and jumps nowhere does, but for going on.
 #[tactic(auto, using(crate::proofs::Sources::readable, crate::proofs::Sources::readable_count), unfolding(crate::specs::Meanings::acted))]
 fn act(strand: &mut Strand, insn: &Insn, value: u64)
     requires valid { IsStrand strand.old }

@@ -2,6 +2,8 @@
 //! with the number of its status.
 #![tactic(auto)]
 
+ghost use Rattle.std.specs.Prelude.{◌≡◌, ◌⊎◌};
+
 use std::alloc::Global;
 use std::env::{self, Args};
 use std::io;
@@ -19,7 +21,9 @@ fn words(alloc: Global, args: Args) -> io::Result<Vec<String>> {
 }
 
 /// The status where there are no words to serve: a word that is no text is no command.
-fn wordless<E: Sink>(error: io::Error, err: &mut E) -> Status {
+fn wordless<E: Sink>(error: io::Error, err: &mut E) -> Status
+    ensures status { (result ≡ Status.OutOfMemory) ⊎ (result ≡ Status.Usage) }
+{
     if error.kind() == io::ErrorKind::OutOfMemory {
         let _ = write_all(err, b"t1sim: out of memory\n");
         Status::OutOfMemory
