@@ -2,10 +2,8 @@
 use Rattle.std.proofs.Common.{◌≡◌, ◌≢◌, ℕ, zero, suc, ◌+◌, ◌<◌, List, length, get_or, set, replicate, Option, Some, None, ap, sym, ◌∙◌, subst, inl, inr, ◌⊎◌, arith}
 use Rattle.std.proofs.lemmas.List.{get_or-set_same, get_or-set_other, set_past, get_or_past}
 use Rattle.std.proofs.lemmas.Bool.{cases_lt, cases_eq}
-use Rattle.t1_num.specs.Shape.{Layout, first_slot, InSet}
-use Rattle.t1_num.specs.Slots.{slot_of, IsOnce}
-use Rattle.t1_num.proofs.Shape.{way_in_set}
-use Rattle.t1_num.proofs.Slots.{slot_some, slot_none}
+use Rattle.t1_shape.specs.Slots.{Layout, first_slot, InSet, slot_of, IsOnce}
+use Rattle.t1_shape.proofs.Slots.{way_in_set, slot_some, slot_none}
 
 -- what a slot holds after a write
 pub set_read : {A : Type 0} (xs : List (Option A)) (i : ℕ) (v : Option A) (k : ℕ) (l : A) → get_or (set xs i v) k None ≡ Some l

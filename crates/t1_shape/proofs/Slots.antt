@@ -1,9 +1,27 @@
 -- Look-ups among the slots of a cache.
-use Rattle.std.proofs.Common.{cond, ◌≡◌, ℕ, zero, suc, ◌+◌, ◌%◌, ◌<◌, ◌≤◌, true, false, eqb, List, get_or, Option, Some, None, refl, ap, sym, ◌∙◌, subst, inl, inr, arith}
+use Rattle.std.proofs.Common.{cond, is_none, ◌-◌, ◌/◌, ◌*◌, ◌≡◌, ℕ, zero, suc, ◌+◌, ◌%◌, ◌<◌, ◌≤◌, true, false, eqb, List, get_or, Option, Some, None, refl, ap, sym, ◌∙◌, subst, inl, inr, arith}
 use Rattle.std.specs.Option.{option_eq, is_some}
+use Rattle.std.proofs.lemmas.Nat.{div-add-mod', div-mul-add}
 use Rattle.std.proofs.lemmas.Bool.{cases_eq, cases_Bool, cond-true, cond-false, eq-eqb, eqb-true}
-use Rattle.t1_num.specs.Shape.{Layout, first_slot, InSet}
-use Rattle.t1_num.specs.Slots.{holds, scan, slot_of, is_empty, empty_from, slot_or, victim_of}
+use Rattle.t1_shape.specs.Slots.{Layout, set_of, first_slot, InSet, holds, scan, slot_of, empty_way, way_or, victim_of}
+
+-- ---- a set's slots
+
+-- a way of a line's set is one of its slots
+pub way_in_set : (g : Layout) (line way : ℕ) → way < g.ways → InSet g line (first_slot g line + way)
+way_in_set g line way l = record { above = omega arith; below = omega (arith, l) }
+
+-- a slot's set and way name it
+pub slot_split : (g : Layout) (k : ℕ) → g.ways * (k / g.ways) + k % g.ways ≡ k
+slot_split g k = omega (arith, div-add-mod' k g.ways)
+
+-- the set of a slot
+pub set_of_slot : (g : Layout) (s j : ℕ) → g.ways * s ≤ j → j < g.ways * s + g.ways → j / g.ways ≡ s
+set_of_slot g s j a b =
+    let e : j ≡ s * g.ways + (j - g.ways * s) = omega arith in
+    ap (λ (n : ℕ). n / g.ways) e ∙ div-mul-add s g.ways (j - g.ways * s) (omega arith)
+
+-- ---- the slot of a line
 
 pub holds-true : (o : Option ℕ) (line : ℕ) → holds o line ≡ true → o ≡ Some line
 holds-true None line e = cc
@@ -16,8 +34,6 @@ holds-same o line e = subst (λ (p : Option ℕ). holds p line ≡ true) (sym e)
 pub option_eq-holds : (o : Option ℕ) (line : ℕ) → option_eq eqb o (Some line) ≡ holds o line
 option_eq-holds None line = refl
 option_eq-holds (Some x) line = refl
-
--- ---- the slot of a line
 
 -- slot j, one of n from k on, holds the line
 pub record Found (tags : List (Option ℕ)) (line k n j : ℕ) : Type 0 where
@@ -90,50 +106,53 @@ scan_next tags line k n m e ne =
 
 -- ---- an empty slot
 
-pub record Empty (tags : List (Option ℕ)) (k n j : ℕ) : Type 0 where
-  pub above : k ≤ j
-  pub below : j < k + n
-  pub is : get_or tags j None ≡ None
+-- this way, one of n from a way on, has an empty slot
+pub record Empty {A : Type 0} (slots : List (Option A)) (first way n found : ℕ) : Type 0 where
+  pub above : way ≤ found
+  pub below : found < way + n
+  pub is : get_or slots (first + found) None ≡ None
 
-empty_cases : (tags : List (Option ℕ)) (k n j : ℕ) → (empty_from tags (suc k) n ≡ Some j → Empty tags (suc k) n j)
-    → (o : Option ℕ) → get_or tags k None ≡ o → cond (is_empty o) (Some k) (empty_from tags (suc k) n) ≡ Some j → Empty tags k (suc n) j
-empty_cases tags k n j more None f e =
-    let same : k ≡ j = cc in
-    record { above = omega arith; below = omega arith; is = subst (λ (i : ℕ). get_or tags i None ≡ None) same f }
-empty_cases tags k n j more (Some x) f e = let r = more e in record { above = omega (arith, r.above); below = omega (arith, r.below); is = r.is }
+empty_cases : {A : Type 0} (slots : List (Option A)) (first way n found : ℕ) → (empty_way slots first (suc way) n ≡ Some found → Empty slots first (suc way) n found)
+    → (o : Option A) → get_or slots (first + way) None ≡ o → cond (is_none o) (Some way) (empty_way slots first (suc way) n) ≡ Some found → Empty slots first way (suc n) found
+empty_cases slots first way n found more None f e =
+    let same : way ≡ found = cc in
+    record { above = omega arith; below = omega arith; is = subst (λ (i : ℕ). get_or slots (first + i) None ≡ None) same f }
+empty_cases slots first way n found more (Some x) f e = let r = more e in record { above = omega (arith, r.above); below = omega (arith, r.below); is = r.is }
 
-pub empty_some : (tags : List (Option ℕ)) (k n j : ℕ) → empty_from tags k n ≡ Some j → Empty tags k n j
-empty_some tags k zero j e = cc
-empty_some tags k (suc n) j e = empty_cases tags k n j (λ f. empty_some tags (suc k) n j f) (get_or tags k None) refl e
+pub empty_some : {A : Type 0} (slots : List (Option A)) (first way n found : ℕ) → empty_way slots first way n ≡ Some found → Empty slots first way n found
+empty_some slots first way zero found e = cc
+empty_some slots first way (suc n) found e =
+    empty_cases slots first way n found (λ f. empty_some slots first (suc way) n found f) (get_or slots (first + way) None) refl e
 
-empty_here : (tags : List (Option ℕ)) (k n m : ℕ) → n ≡ suc m → get_or tags k None ≡ None → empty_from tags k n ≡ Some k
-empty_here tags k n m e f = ap (λ (i : ℕ). empty_from tags k i) e ∙ ap (λ (o : Option ℕ). cond (is_empty o) (Some k) (empty_from tags (suc k) m)) f
-
-empty_next : (tags : List (Option ℕ)) (k n m x : ℕ) → n ≡ suc m → get_or tags k None ≡ Some x → empty_from tags k n ≡ empty_from tags (suc k) m
-empty_next tags k n m x e f = ap (λ (i : ℕ). empty_from tags k i) e ∙ ap (λ (o : Option ℕ). cond (is_empty o) (Some k) (empty_from tags (suc k) m)) f
+empty_by : {A : Type 0} (slots : List (Option A)) (first way n m : ℕ) → n ≡ suc m → (o : Option A) → get_or slots (first + way) None ≡ o
+    → empty_way slots first way n ≡ cond (is_none o) (Some way) (empty_way slots first (suc way) m)
+empty_by slots first way n m e o f =
+    ap (λ (i : ℕ). empty_way slots first way i) e ∙ ap (λ o. cond (is_none o) (Some way) (empty_way slots first (suc way) m)) f
 
 -- an empty slot ends the search, a full one does not
-pub empty_stop : (tags : List (Option ℕ)) (k n m : ℕ) → n ≡ suc m → (o : Option ℕ) → get_or tags k None ≡ o → is_some o ≡ false → empty_from tags k n ≡ Some k
-empty_stop tags k n m e None f t = empty_here tags k n m e f
-empty_stop tags k n m e (Some x) f t = cc
+pub empty_stop : {A : Type 0} (slots : List (Option A)) (first way n m : ℕ) → n ≡ suc m → (o : Option A) → get_or slots (first + way) None ≡ o → is_some o ≡ false
+    → empty_way slots first way n ≡ Some way
+empty_stop slots first way n m e None f t = empty_by slots first way n m e None f
+empty_stop slots first way n m e (Some x) f t = cc
 
-pub empty_full : (tags : List (Option ℕ)) (k n m : ℕ) → n ≡ suc m → (o : Option ℕ) → get_or tags k None ≡ o → is_some o ≡ true → empty_from tags k n ≡ empty_from tags (suc k) m
-empty_full tags k n m e None f t = cc
-empty_full tags k n m e (Some x) f t = empty_next tags k n m x e f
+pub empty_full : {A : Type 0} (slots : List (Option A)) (first way n m : ℕ) → n ≡ suc m → (o : Option A) → get_or slots (first + way) None ≡ o → is_some o ≡ true
+    → empty_way slots first way n ≡ empty_way slots first (suc way) m
+empty_full slots first way n m e None f t = cc
+empty_full slots first way n m e (Some x) f t = empty_by slots first way n m e (Some x) f
 
-pub victim_is : (g : Layout) (tags : List (Option ℕ)) (next : List ℕ) (line : ℕ)
-    → victim_of g tags next line ≡ slot_or (empty_from tags (first_slot g line) g.ways) (first_slot g line + get_or next (line % g.sets) 0)
+-- ---- the way of a fill
+
+pub victim_is : {A : Type 0} (g : Layout) (slots : List (Option A)) (pointers : List ℕ) (line : ℕ)
+    → victim_of g slots pointers line ≡ way_or (empty_way slots (first_slot g line) 0 g.ways) (get_or pointers (set_of g line) 0)
 unfolding victim_of
-victim_is g tags next line = refl
+victim_is g slots pointers line = refl
 
--- the victim lies in the line's set
-pub victim_in_set : (g : Layout) (tags : List (Option ℕ)) (next : List ℕ) (line : ℕ) → get_or next (line % g.sets) 0 < g.ways
-    → InSet g line (victim_of g tags next line)
+-- it is a way of the cache
+pub victim_below : {A : Type 0} (g : Layout) (slots : List (Option A)) (pointers : List ℕ) (line : ℕ) → get_or pointers (set_of g line) 0 < g.ways
+    → victim_of g slots pointers line < g.ways
 unfolding victim_of
-victim_in_set g tags next line low = go (empty_from tags (first_slot g line) g.ways) refl
+victim_below g slots pointers line low = go (empty_way slots (first_slot g line) 0 g.ways) refl
   where
-    go : (o : Option ℕ) → empty_from tags (first_slot g line) g.ways ≡ o → InSet g line (slot_or o (first_slot g line + get_or next (line % g.sets) 0))
-    go None e = record { above = omega arith; below = omega (arith, low) }
-    go (Some j) e =
-        let r = empty_some tags (first_slot g line) g.ways j e in
-        record { above = r.above; below = r.below }
+    go : (o : Option ℕ) → empty_way slots (first_slot g line) 0 g.ways ≡ o → way_or o (get_or pointers (set_of g line) 0) < g.ways
+    go None e = low
+    go (Some way) e = let r = empty_some slots (first_slot g line) 0 g.ways way e in omega (arith, r.below)

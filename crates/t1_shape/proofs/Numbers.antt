@@ -1,7 +1,9 @@
 -- What proofs may use of the numbers of a chip: each law that needs a number has a clause for each shape.
-use Rattle.std.proofs.Common.{◌≡◌, ℕ, ◌+◌, ◌-◌, ◌*◌, ◌/◌, ◌%◌, ◌^◌, ◌<◌, ◌≤◌, ap, ◌∙◌, arith}
-use Rattle.std.proofs.lemmas.Nat.{div-add-mod', div-mul-add, mod_below}
-use Rattle.t1_num.specs.Shape.{Shape, T1, banks, most_strands, l2_ways, most_l2_sets, bank_at, place_of, Layout, first_slot, InSet, l2_layout}
+use Rattle.std.proofs.Common.{◌≡◌, ℕ, ◌+◌, ◌*◌, ◌/◌, ◌%◌, ◌^◌, ◌<◌, ◌≤◌, arith}
+use Rattle.std.proofs.lemmas.Nat.{mod_below}
+use Rattle.t1_shape.specs.Shapes.{Shape}
+use Rattle.t1_shape.specs.Shapes.Shape.{T1}
+use Rattle.t1_shape.specs.Numbers.{banks, most_strands, l2_ways, most_l2_sets, bank_at, place_in_bank}
 
 -- ---- bounds
 
@@ -17,37 +19,21 @@ l2_ways_are T1 = (omega arith, omega arith)
 pub l2_sets_are : (shape : Shape) → most_l2_sets shape ≤ 1024
 l2_sets_are T1 = omega arith
 
--- ---- slots of a cache, of any layout
-
--- a way of a line's set is one of its slots
-pub way_in_set : (g : Layout) (line way : ℕ) → way < g.ways → InSet g line (first_slot g line + way)
-way_in_set g line way l = record { above = omega arith; below = omega (arith, l) }
-
--- a slot's set and way name it
-pub slot_split : (g : Layout) (k : ℕ) → g.ways * (k / g.ways) + k % g.ways ≡ k
-slot_split g k = omega (arith, div-add-mod' k g.ways)
-
--- the set of a slot
-pub set_of_slot : (g : Layout) (s j : ℕ) → g.ways * s ≤ j → j < g.ways * s + g.ways → j / g.ways ≡ s
-set_of_slot g s j a b =
-    let e : j ≡ s * g.ways + (j - g.ways * s) = omega arith in
-    ap (λ (n : ℕ). n / g.ways) e ∙ div-mul-add s g.ways (j - g.ways * s) (omega arith)
-
 -- ---- the lines of a bank
 
 pub bank_below : (shape : Shape) (addr : ℕ) → bank_at shape addr < banks shape
 bank_below shape addr = mod_below (addr / 64) (banks shape) (banks_are shape).0
 
 -- a line's bank and its place there name it
-pub line_from_place : (shape : Shape) (l m : ℕ) → l % banks shape ≡ m % banks shape → place_of shape l ≡ place_of shape m → l ≡ m
+pub line_from_place : (shape : Shape) (l m : ℕ) → l % banks shape ≡ m % banks shape → place_in_bank shape l ≡ place_in_bank shape m → l ≡ m
 line_from_place T1 l m p q = omega (arith, p, q)
 
 -- the slots of an L2 set are slots of the bank's array
-pub l2_slot_below : (shape : Shape) (n line k : ℕ) → 0 < n → InSet (l2_layout shape n) line k → k < l2_ways shape * n
-l2_slot_below T1 n line k some p = omega (arith, p.below, mod_below line n some)
+pub l2_slot_below : (shape : Shape) (n s k : ℕ) → s < n → k < l2_ways shape * s + l2_ways shape → k < l2_ways shape * n
+l2_slot_below T1 n s k l p = omega (arith, p, l)
 
 -- an address below a memory of n lines a bank lies in one of them
-pub place_within : (shape : Shape) (addr n : ℕ) → addr < 64 * (banks shape * n) → place_of shape (addr / 64) < n
+pub place_within : (shape : Shape) (addr n : ℕ) → addr < 64 * (banks shape * n) → place_in_bank shape (addr / 64) < n
 place_within T1 addr n l = omega (arith, l)
 
 -- RAM is a whole number of lines for each bank
@@ -61,7 +47,7 @@ line_fits T1 ram b i e p q = omega (arith, e, p, q)
 pub place_small : (shape : Shape) (ram : ℕ) → ram ≤ 2 ^ 28 → ram / 64 / banks shape < 2 ^ 40
 place_small T1 ram l = omega (arith, l)
 
-pub line_low : (shape : Shape) (line : ℕ) → place_of shape line < 2 ^ 40 → line < 2 ^ 44
+pub line_low : (shape : Shape) (line : ℕ) → place_in_bank shape line < 2 ^ 40 → line < 2 ^ 44
 line_low T1 line l = omega (arith, l)
 
 -- an address by its line and bank, and where other lines of the bank lie
