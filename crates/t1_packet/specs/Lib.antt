@@ -1,0 +1,4 @@
+pub mod Data
+pub mod Ops
+pub mod Caches
+pub mod Packets
