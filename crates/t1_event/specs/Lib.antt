@@ -3,3 +3,11 @@ pub mod Items
 pub mod Order
 pub mod ProgramOrder
 pub mod FlatMemory
+pub mod Times
+pub mod Keys
+pub mod Log
+pub mod Kills
+pub mod BankRule
+pub mod Shadow
+pub mod Posts
+pub mod Places

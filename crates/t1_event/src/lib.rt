@@ -5,6 +5,7 @@
 //! order over the traces and the image that the memory held at first.
 #![tactic(auto)]
 
+pub mod commit;
 pub mod item;
 pub mod laws;
 pub mod listed;
@@ -13,6 +14,7 @@ pub mod report;
 mod tests;
 pub mod trace;
 
+pub use commit::Commit;
 pub use item::{How, Item, ItemKind};
 pub use listed::Listed;
 pub use report::{Config, Image, Place, Report};
