@@ -36,3 +36,9 @@ AreApart d tags = (i k l m : ℕ) → get_or tags i None ≡ Some l → get_or t
 -- no slot holds this place
 abbrev pub NoneAt : ℕ → List (Option ℕ) → ℕ → Type 0
 NoneAt d tags place = (k line : ℕ) → get_or tags k None ≡ Some line → line / d ≡ place → ⊥
+
+-- the whole array: the tags and pointers, a line for each slot, the bank's lines of RAM, and the slot looked at first
+pub record IsArray (shape : Shape) (bank sets : ℕ) (tags : List (Option ℕ)) (pointers : List ℕ) (lines ram : List (List ℕ)) (recent : ℕ) : Type 0 where
+  pub l2 : IsL2 shape bank sets (length ram) tags pointers
+  pub full : length lines ≡ l2_ways shape * sets
+  pub first : recent < l2_ways shape * sets
