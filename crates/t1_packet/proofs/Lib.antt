@@ -1,1 +1,2 @@
 pub mod FirstKills
+pub mod Caches
