@@ -11,3 +11,4 @@ pub mod BankRule
 pub mod Shadow
 pub mod Posts
 pub mod Places
+pub mod Records

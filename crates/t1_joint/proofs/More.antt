@@ -1,5 +1,5 @@
 -- More values to read change nothing of what was replayed.
-use Rattle.std.proofs.Common.{◌≡◌, ℕ, zero, suc, ◌+◌, ◌*◌, ◌^◌, ◌==◌, nat_lt, Bool, true, false, List, [], ◌∷◌, ◌++◌, Option, Some, None, refl, ap, sym, ◌∙◌}
+use Rattle.std.proofs.Common.{◌≡◌, ℕ, zero, suc, ◌*◌, ◌^◌, ◌==◌, nat_lt, Bool, true, false, List, [], ◌∷◌, ◌++◌, Option, Some, None, refl, ap, sym, ◌∙◌}
 use Rattle.t1_decode.specs.Words.{insn_of}
 use Rattle.t1_state.specs.declared.strand.Strand.{Strand}
 use Rattle.t1_state.specs.Interrupts.{due_of}
@@ -8,7 +8,7 @@ use Rattle.t1_exec.specs.declared.need.Need.TheVariants as need
 use Rattle.t1_exec.specs.Needs.{need_of}
 use Rattle.t1_event.specs.declared.item.Item.{Item}
 use Rattle.t1_event.specs.Items.{fetch_item, load_item}
-use Rattle.t1_joint.specs.Replay.{End, Running, Starved, Done, Replay, Bounds, atomic_item, starved, with_value, with_read, met, with_word, fetched, is_fetchable, begun, begun_or_spent, unit_at, unit, units, started}
+use Rattle.t1_joint.specs.Replay.{End, Running, Starved, Done, Replay, Bounds, atomic_item, with_value, with_read, met, with_word, fetched, is_fetchable, begun, begun_or_spent, unit_at, unit, units}
 
 -- the same replay with more values to read
 abbrev pub more : Replay → List ℕ → Replay

@@ -1,5 +1,5 @@
 -- A replay goes on by one unit.
-use Rattle.std.proofs.Common.{◌≡◌, ℕ, suc, ◌+◌, ◌==◌, ◌^◌, nat_lt, cond, Bool, true, false, List, [], ◌∷◌, ◌++◌, Option, Some, None, refl, ap, sym, ◌∙◌, append_assoc, append-nil}
+use Rattle.std.proofs.Common.{◌≡◌, ℕ, suc, ◌==◌, ◌^◌, nat_lt, cond, Bool, true, false, List, [], ◌∷◌, ◌++◌, Option, Some, None, refl, ap, sym, ◌∙◌, append_assoc, append-nil}
 use Rattle.t1_decode.specs.Words.{insn_of}
 use Rattle.t1_state.specs.declared.strand.Strand.{Strand}
 use Rattle.t1_state.specs.Interrupts.{due_of}
@@ -8,7 +8,7 @@ use Rattle.t1_event.specs.declared.item.Item.{Item}
 use Rattle.t1_event.specs.declared.trace.Ending.TheVariants as ending
 use Rattle.t1_event.specs.Kinds.{is_read}
 use Rattle.t1_event.specs.Items.{fetch_item, reads_of}
-use Rattle.t1_joint.specs.Replay.{End, Running, Starved, Done, Replay, Bounds, fetch_trap, trapped, met, with_word, is_fetchable, begun, begun_or_spent, unit, units, started}
+use Rattle.t1_joint.specs.Replay.{Running, Starved, Done, Replay, Bounds, fetch_trap, trapped, met, with_word, is_fetchable, begun, begun_or_spent, unit, units, started}
 use Rattle.t1_joint.specs.Follows.{StandsAt, HasBegun}
 use Rattle.t1_joint.proofs.More.{more, units_more}
 

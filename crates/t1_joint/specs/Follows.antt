@@ -1,5 +1,5 @@
 -- Traces that follow the instruction table.
-use Rattle.std.specs.Prelude.{ℕ, suc, ◌≡◌, ◌^◌, ◌==◌, nat_lt, Bool, true, false, List, [], ◌∷◌, ◌++◌, map, Option, Some, None}
+use Rattle.std.specs.Prelude.{ℕ, ◌≡◌, ◌^◌, ◌==◌, nat_lt, true, false, List, [], ◌∷◌, ◌++◌, map, Option, Some, None}
 use Rattle.t1_state.specs.declared.strand.Strand.{Strand}
 use Rattle.t1_state.specs.Interrupts.{due_of}
 use Rattle.t1_event.specs.declared.item.Item.{Item}

@@ -1,2 +1,10 @@
 pub mod Replay
 pub mod Follows
+pub mod Start
+pub mod Lists
+pub mod Parts
+pub mod Proper
+pub mod Waits
+pub mod Rows
+pub mod CoreRule
+pub mod Fit
