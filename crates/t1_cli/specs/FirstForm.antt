@@ -1,7 +1,7 @@
 -- The first form of an input: an ELF-64 file with one segment that is loaded (System V ABI, chapters 4 and 5).
 use Rattle.std.specs.Prelude.{ℕ, ◌+◌, ◌%◌, ◌==◌, ◌&&◌, nat_le, nat_lt, Bool, List, ◌++◌, length, take, drop, replicate}
 use Rattle.t1_num.specs.Memory.{number_at}
-use Rattle.t1_event.specs.declared.report.Image.{Image}
+use Rattle.t1_elf.specs.declared.object.Image.{Image}
 
 -- the most bytes of an input
 abbrev pub most_input : ℕ

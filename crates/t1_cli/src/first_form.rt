@@ -3,7 +3,7 @@ ghost use Rattle.std.specs.Prelude.{◌≡◌, ◌≤◌, ◌<◌, ◌+◌, ◌%
 ghost use Rattle.t1_cli.specs.FirstForm.{entry_of, offset_of, size_of, address_of, is_header, is_segment, is_entry, is_first_form, first_image, zeros, with_bytes_at};
 
 use std::alloc::{AllocError, Global};
-use t1_event::{Image, Listed};
+use t1_elf::{Image, Listed};
 use t1_num::get_be;
 
 /// The most bytes of an input.

@@ -4,7 +4,8 @@ ghost use Rattle.t1_event.specs.Kinds.{is_access};
 ghost use Rattle.t1_event.specs.ProgramOrder.{program_order};
 
 use std::alloc::{AllocError, Global};
-use t1_event::{Item, ItemKind, Listed, Place};
+use t1_elf::Listed;
+use t1_event::{Item, ItemKind, Place};
 
 /// Whether an item is an access: no membar and no flush.
 fn is_access_kind(kind: ItemKind) -> bool

@@ -12,7 +12,8 @@ use crate::order::program_order_of;
 use crate::outcome::Outcome;
 use crate::run::{Run, run_flat};
 use std::alloc::{AllocError, Global};
-use t1_event::{Config, Ending, Image, Listed, Report, Trace};
+use t1_elf::{Image, Listed};
+use t1_event::{Config, Ending, Report, Trace};
 
 /// The units that a strand may make.
 const FIRST_BUDGET: u32 = 10;

@@ -9,7 +9,8 @@ ghost use Rattle.t1_cli.specs.Flat.{flat_at, flat_run};
 use crate::flat::FlatEnd;
 use crate::unit::unit;
 use std::alloc::{AllocError, Global};
-use t1_event::{Item, Listed};
+use t1_elf::Listed;
+use t1_event::Item;
 use t1_state::Strand;
 
 /// What a strand came to: its state, its items in program order, and how it left off.

@@ -13,7 +13,8 @@ ghost use Rattle.t1_cli.specs.Flat.{flat_at, flat_entry, flat_met, flat_unit, bo
 use crate::flat::FlatEnd;
 use std::alloc::AllocError;
 use t1_decode::decode;
-use t1_event::{Ending, How, Item, ItemKind, Listed};
+use t1_elf::Listed;
+use t1_event::{Ending, How, Item, ItemKind};
 use t1_exec::{AtomicOp, Need, finish, issue};
 use t1_insn::Insn;
 use t1_num::{get_be, put_be};

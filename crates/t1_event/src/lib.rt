@@ -8,7 +8,6 @@
 pub mod commit;
 pub mod item;
 pub mod laws;
-pub mod listed;
 pub mod report;
 #[cfg(test)]
 mod tests;
@@ -16,6 +15,5 @@ pub mod trace;
 
 pub use commit::Commit;
 pub use item::{How, Item, ItemKind};
-pub use listed::Listed;
-pub use report::{Config, Image, Place, Report};
+pub use report::{Config, Place, Report};
 pub use trace::{Ending, Trace};

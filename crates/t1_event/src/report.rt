@@ -1,7 +1,7 @@
 //! The report of a run.
 
-use crate::listed::Listed;
 use crate::trace::Trace;
+use t1_elf::{Image, Listed};
 
 /// The machine of a run: cores, strands of each core, bytes of RAM, sets of each L2 bank, and the
 /// budget of each strand in units.
@@ -12,13 +12,6 @@ pub struct Config {
     pub ram: u64,
     pub sets: u32,
     pub budget: u32,
-}
-
-/// What the memory holds at first, and where every strand starts.
-#[derive(Drop)]
-pub struct Image {
-    pub entry: u64,
-    pub ram: Listed<u8>,
 }
 
 /// An item of a run: the number of its strand, and its number in the strand's trace.

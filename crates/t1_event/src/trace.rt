@@ -1,7 +1,7 @@
 //! The trace of a strand.
 
 use crate::item::Item;
-use crate::listed::Listed;
+use t1_elf::Listed;
 
 /// How a strand ended.
 #[derive(Clone, Copy, Debug, PartialEq, Eq)]

@@ -2,7 +2,7 @@
 use Rattle.std.specs.Prelude.{ℕ, zero, suc, Bool, ◌+◌, ◌*◌, ◌/◌, ◌==◌, List, [], ◌∷◌, ◌++◌, length, take, drop, if◌then◌else◌}
 use Rattle.std.specs.List.{list_all}
 use Rattle.t1_event.specs.declared.report.Config.{Config}
-use Rattle.t1_event.specs.declared.report.Image.{Image}
+use Rattle.t1_elf.specs.declared.object.Image.{Image}
 use Rattle.t1_event.specs.declared.report.Place.{Place}
 use Rattle.t1_log.specs.Lines.{config_line_of, entry_line_of, block_line_of, place_line_of}
 

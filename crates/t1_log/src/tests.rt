@@ -5,7 +5,8 @@ ghost use Rattle.t1_log.specs.Printable.{FitsDigits, IsPrintableItem, IsPrintabl
 use crate::print_first;
 use std::alloc::{AllocError, Global};
 use std::test::Fail;
-use t1_event::{Config, Ending, How, Image, Item, ItemKind, Listed, Place, Report, Trace};
+use t1_elf::{Image, Listed};
+use t1_event::{Config, Ending, How, Item, ItemKind, Place, Report, Trace};
 use t1_io::CalmSink;
 
 fn item(kind: ItemKind, addr: u64, size: u8, got: u64, put: u64) -> Item {

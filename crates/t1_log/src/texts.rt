@@ -6,7 +6,8 @@ ghost use Rattle.t1_log.specs.Texts.{is_blank, block_lines_of, image_lines_of, h
 
 use crate::line::Line;
 use crate::lines::{ROOM, block_line, config_line, entry_line, place_line};
-use t1_event::{Config, Image, Place};
+use t1_elf::Image;
+use t1_event::{Config, Place};
 use t1_io::{Failed, Sink, write_all};
 
 /// Writes a line, by one call of `write_all`.
