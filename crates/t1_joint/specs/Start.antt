@@ -4,7 +4,7 @@ use Rattle.t1_shape.specs.Shapes.{Shape}
 use Rattle.t1_state.specs.declared.strand.Strand.{Strand}
 use Rattle.t1_state.specs.Registers.{start_of}
 use Rattle.t1_event.specs.declared.report.Config.{Config}
-use Rattle.t1_event.specs.declared.report.Image.{Image}
+use Rattle.t1_elf.specs.declared.object.Image.{Image}
 use Rattle.t1_joint.specs.Replay.{Bounds}
 
 -- the start state of a strand, which is numbered over all cores, at this entry
