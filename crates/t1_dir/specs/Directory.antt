@@ -1,5 +1,5 @@
 -- The shadow directory of a bank: for each core and cache a line or nothing in each slot
--- (OpenSPARC T1 Microarchitecture Specification, 4.2).
+-- (OpenSPARC T1 Microarchitecture Specification, chapter 4).
 use Rattle.std.specs.Prelude.{ℕ, ◌+◌, ◌<◌, List, [], ◌∷◌, length, get_or, set, replicate, Option, Some, None}
 use Rattle.t1_shape.specs.Shapes.{Shape}
 use Rattle.t1_shape.specs.Slots.{slots_in, first_slot}

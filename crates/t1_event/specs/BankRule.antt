@@ -35,7 +35,7 @@ bank_start shape bank cores sets image = record {
 abbrev pub is_size : ℕ → Bool
 is_size size = (size == 1) || (size == 2) || (size == 4) || (size == 8)
 
--- the ways of the cache that an access fills
+-- the ways of the cache that an access fills; 1 where it fills none, and carries the way 0
 abbrev pub ways_for : Shape → Op → ℕ
 ways_for shape (Fetch addr way) = (layout shape Icache).ways
 ways_for shape (Load addr size way) = (layout shape Dcache).ways
@@ -90,7 +90,8 @@ served_by b r = if is_fit b r then served_well b r else refused r
 
 -- ---- the state after
 
--- the array after an access whose effect is known: its line is present, and written where it writes
+-- the array after an access whose effect is known (a compare here is one that failed): its line is
+-- present, and written where it writes
 abbrev pub array_after : ArrayState → Op → ArrayState
 array_after a (Fetch addr way) = ensured a (l2_line addr)
 array_after a (Load addr size way) = ensured a (l2_line addr)

@@ -1,5 +1,5 @@
--- The memory order of a run, ascending by keys: commit n has the key (n, 1), and a hit or forwarded
--- load of time t has (t, 0, strand, item).
+-- The memory order of a run, ascending by keys: commit n has the key (n, 1), and an access that hit or
+-- was forwarded at time t has (t, 0, strand, item).
 use Rattle.std.specs.Prelude.{ℕ, ◌≡◌, ◌+◌, ◌*◌, ◌<◌, ◌⊎◌, List, Some}
 use Rattle.std.specs.List.{slice_get}
 use Rattle.t1_event.specs.declared.item.Item.{Item}

@@ -1,5 +1,6 @@
--- What a bank kills for an access, and the way of a fill, by what its directory shows
--- (OpenSPARC T1 Microarchitecture Specification, 4.2).
+-- What a bank kills for an access, and the way of a fill, by what its directory shows (OpenSPARC T1
+-- Microarchitecture Specification, chapter 4; that an atomic kills the copy of its own core, and the ways
+-- of fills, are this project's profile).
 use Rattle.std.specs.Prelude.{ℕ, zero, suc, ◌*◌, ◌/◌, ◌%◌, ◌==◌, ◌||◌, Bool, true, false, if◌then◌else◌, List, [], ◌∷◌, ◌++◌, Option, Some, None}
 use Rattle.t1_shape.specs.Shapes.{Shape}
 use Rattle.t1_shape.specs.Numbers.{l2_line}
@@ -11,7 +12,8 @@ use Rattle.t1_packet.specs.declared.op.Op.TheVariants.{Fetch, Load, Store, Swap,
 use Rattle.t1_packet.specs.Data.{KillData}
 use Rattle.t1_packet.specs.Caches.{layout, width, line_of}
 
--- what an access does once its old value is known: a compare that holds is a swap
+-- what an access does once its old value is known: a compare that holds is a swap, and one that fails
+-- a compare of zeros
 abbrev pub effect : Op → ℕ → Op
 effect (Fetch addr way) old = Fetch addr way
 effect (Load addr size way) old = Load addr size way

@@ -33,13 +33,15 @@ pub record Run : Type 0 where
   pub traces : List (List Item)
   pub log : List Commit
 
--- the core of an item's strand, and its L1 caches and memory
+-- the core of an item's strand
 abbrev pub home : (h : Run) → Act h.traces → ℕ
 home h x = x.strand / h.strands
 
+-- a cache of a core after the posts of the first t commits
 abbrev pub cache_at : (h : Run) → ℕ → Cache → ℕ → List (Option Line)
 cache_at h core cache t = l1_at h.shape h.strands h.image h.log core cache t
 
+-- memory before commit n
 abbrev pub memory_before : Run → ℕ → List ℕ
 memory_before h n = memory_at h.image h.log n
 

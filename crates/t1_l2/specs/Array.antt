@@ -6,7 +6,7 @@ use Rattle.t1_shape.specs.Numbers.{banks, l2_ways, l2_line, bank_at, place_in_ba
 use Rattle.t1_shape.specs.Slots.{Layout, set_of, first_slot, scan, next_way, victim_of}
 
 -- a tag is the number of a line of 64 bytes among all of memory; `memory` has the bank's lines as they
--- are read, whether the L2 holds them or RAM alone: line `place_in_bank l` is line l
+-- are read, whether the L2 holds them or RAM alone: entry `place_in_bank l` is line l
 pub record ArrayState : Type 0 where
   pub shape : Shape
   pub bank : ℕ
@@ -96,10 +96,11 @@ written_at a addr size value = record a { memory = set a.memory (place_of a (l2_
 
 -- ---- the start
 
--- the first n of a bank's lines of a memory: lines of memory go round the banks
+-- line i of a bank: lines of memory go round the banks
 abbrev pub line_of_bank : Shape → ℕ → List ℕ → ℕ → List ℕ
 line_of_bank shape bank ram i = take 64 (drop (64 * (banks shape * i + bank)) ram)
 
+-- the first n of a bank's lines
 abbrev pub lines_of_bank : Shape → ℕ → List ℕ → ℕ → List (List ℕ)
 lines_of_bank shape bank ram zero = []
 lines_of_bank shape bank ram (suc n) = lines_of_bank shape bank ram n ++ line_of_bank shape bank ram n ∷ []

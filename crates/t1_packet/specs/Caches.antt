@@ -1,5 +1,5 @@
 -- The two L1 caches of a core, and what kills and replies do to the slots of one
--- (OpenSPARC T1 Microarchitecture Specification, chapter 3).
+-- (OpenSPARC T1 Microarchitecture Specification, chapters 2 to 4).
 use Rattle.std.specs.Prelude.{ℕ, ◌+◌, ◌*◌, ◌/◌, ◌%◌, ◌==◌, ◌&&◌, nat_lt, Bool, true, false, if◌then◌else◌, List, [], ◌∷◌, set, take, Option, Some, None}
 use Rattle.t1_shape.specs.Shapes.{Shape}
 use Rattle.t1_shape.specs.Shapes.Shape.{T1}

@@ -21,7 +21,7 @@ op_size (Store addr size value) = size
 op_size (Swap addr size new) = size
 op_size (Cas addr size expect new) = size
 
--- the way that the line is to take in the cache that it fills; 0 where there is no fill
+-- the way that an op carries; 0 where it carries none
 abbrev pub asked_way : Op → ℕ
 asked_way (Fetch addr way) = way
 asked_way (Load addr size way) = way

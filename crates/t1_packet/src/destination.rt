@@ -3,8 +3,8 @@ ghost use Rattle.std.specs.Prelude.{◌≡◌, ◌<◌};
 ghost use Rattle.t1_shape.specs.Shapes.Shape.{T1};
 ghost use Rattle.t1_packet.specs.Ops.{dest_of};
 
-/// The banks of the L2 cache, which are the destinations 0 to 3.
-pub const BANKS: u8 = 4;
+/// The number of the I/O bridge among the destinations; those below it are the banks of the L2 cache.
+pub const IO_BRIDGE: u8 = 4;
 
 /// The destination of an address: 4, the I/O bridge, for an address of I/O space (bit 39 is set and
 /// bits 63:40 are clear), and for every other the bank that its bits 7:6 name.
@@ -14,7 +14,7 @@ pub fn dest(addr: u64) -> u8
     ensures few { result < 5 }
 {
     if addr >> 39 == 1 {
-        return BANKS;
+        return IO_BRIDGE;
     }
     (addr / 64 % 4) as u8
 }

@@ -29,6 +29,7 @@ impl Model for Kill {
 }
 
 impl Kill {
+    /// The kill of a way of a set, in a core's cache.
     pub fn new(core: u8, cache: Cache, set: u8, way: u8) -> Kill
         requires { (core < 8) × (set < 128) × (way < 8) }
         ensures { result ≡ record { core = core; cache = cache; set = set; way = way } }

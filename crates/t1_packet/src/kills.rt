@@ -21,6 +21,7 @@ impl<const MOST: usize> Model for Kills<MOST> {
 }
 
 impl<const MOST: usize> Kills<MOST> {
+    /// No kill.
     pub fn new() -> Kills<MOST>
         ensures { result ≡ [] }
     {
@@ -29,6 +30,7 @@ impl<const MOST: usize> Kills<MOST> {
         }
     }
 
+    /// Appends a kill.
     pub fn push(&mut self, kill: Kill)
         requires { length self.old < MOST }
         ensures { self.new ≡ self.old ++ kill ∷ [] }
@@ -36,6 +38,7 @@ impl<const MOST: usize> Kills<MOST> {
         self.items.push(kill);
     }
 
+    /// How many there are.
     pub fn len(&self) -> usize
         ensures value { result ≡ length self.now }
         ensures few { result ≤ MOST }
@@ -43,6 +46,18 @@ impl<const MOST: usize> Kills<MOST> {
         self.items.len()
     }
 
+    /// The same kills.
+    pub fn copied(&self) -> Kills<MOST>
+        ensures { result ≡ self.now }
+    {
+        let mut kills = Kills::new();
+        for kill in self.items.as_slice() {
+            kills.items.push(*kill);
+        }
+        kills
+    }
+
+    /// The kills, in order.
     pub fn as_slice(&self) -> &[Kill]
         ensures value { result.now ≡ self.now }
         ensures few { length result.now ≤ MOST }

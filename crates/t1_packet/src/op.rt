@@ -9,7 +9,7 @@ pub enum Op {
         addr: u64,
         way: u8,
     },
-    /// So many bytes, and their line of the data cache.
+    /// So many bytes, and, where they are of RAM, their line of the data cache.
     Load {
         addr: u64,
         size: u8,

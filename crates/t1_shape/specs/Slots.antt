@@ -100,6 +100,7 @@ abbrev pub way_or : Option ℕ → ℕ → ℕ
 way_or None pointer = pointer
 way_or (Some way) pointer = way
 
--- the way that a line's fill takes: the first empty one of its set, else the set's pointer
+-- the way that a line's fill takes, by this project's profile: the first empty one of its set, else the
+-- set's pointer
 unfoldable pub victim_of : {A : Type 0} → Layout → List (Option A) → List ℕ → ℕ → ℕ
 victim_of g slots pointers line = way_or (empty_way slots (first_slot g line) 0 g.ways) (get_or pointers (set_of g line) 0)
