@@ -1,0 +1,4 @@
+pub mod Counts
+pub mod Places
+pub mod Moves
+pub mod Fair
