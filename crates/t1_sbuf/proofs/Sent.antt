@@ -6,7 +6,7 @@ use Rattle.std.proofs.lemmas.List.Elements.{All-push, All-cons, All-head, All-ta
 use Rattle.t1_sbuf.specs.declared.entry.Entry.{Entry}
 use Rattle.t1_sbuf.specs.declared.entry.Look.TheVariants.{Clear}
 use Rattle.t1_sbuf.specs.Looks.{look_of, look_from}
-use Rattle.t1_sbuf.specs.Entries.{IsStore, are_unsent, AreSentFirst, AreEntries, next_unsent, next_to_send_of, sent_next}
+use Rattle.t1_sbuf.specs.Entries.{IsStore, IsOldestSent, are_unsent, AreSentFirst, AreEntries, next_unsent, next_to_send_of, sent_next}
 
 unsent_one : (s b c : Bool) → (b ≡ true → c ≡ true) → (not s && b) ≡ true → (not s && c) ≡ true
 unsent_one true b c f h = h
@@ -114,6 +114,15 @@ sent_is [] e some l at = absurd (omega arith)
 sent_is (f ∷ es) e some l at =
     let here : slice_get (f ∷ es) 0 ≡ Some e = ap (λ (x : Entry). Some x) (sym at) in
     set_is_sent_next (f ∷ es) e here (oldest_unsent (f ∷ es) e some here)
+
+marked_oldest : (s : Bool) (e : Entry) (es next : List Entry) → s ≡ false → IsOldestSent (if s then e ∷ next else record e { sent = true } ∷ es)
+marked_oldest true e es next h = let clash : true ≡ false = h in cc
+marked_oldest false e es next h = refl
+
+pub sent_oldest : (es : List Entry) → IsSome (next_to_send_of es) → IsOldestSent (sent_next es)
+unfolding next_to_send_of sent_next
+sent_oldest [] some = let clash : false ≡ true = some in cc
+sent_oldest (e ∷ es) some = marked_oldest e.sent e es (sent_next es) (unsent_first e.sent e (are_unsent es) (next_unsent es) some)
 
 -- there is one to mark where one may be sent
 pub some_to_send : (es : List Entry) → IsSome (next_to_send_of es) → 0 < length es

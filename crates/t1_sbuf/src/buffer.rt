@@ -108,7 +108,8 @@ impl StoreBuffer {
     #[tactic(auto, using(crate::proofs::Sent::entries_sent, crate::proofs::Sent::oldest_unsent))]
     pub fn sent(&mut self)
         requires { IsSome (next_to_send_of self.old) }
-        ensures { self.new ≡ sent_next self.old }
+        ensures marked { self.new ≡ sent_next self.old }
+        ensures oldest { IsOldestSent self.new }
     {
         let Some(oldest) = self.entries.get_mut(0) else {
             return;

@@ -1,7 +1,18 @@
+ghost use Rattle.std.specs.Prelude.{◌≡◌, ◌*◌, ◌<◌, ◌^◌, false};
+ghost use Rattle.t1_num.specs.Memory.{IsSize};
+ghost use Rattle.t1_sbuf.specs.Access.{IsAligned};
+ghost use Rattle.t1_sbuf.specs.Entries.{IsStore};
+
 use crate::{Entry, Look, StoreBuffer};
 use std::process::Abort;
 
-fn store(item: u32, addr: u64, size: u8, value: u64) -> Entry {
+fn store(item: u32, addr: u64, size: u8, value: u64) -> Entry
+    requires size { IsSize size }
+    requires aligned { IsAligned addr size }
+    requires fits { value < 2 ^ (8 * size) }
+    ensures store { IsStore result }
+    ensures unsent { result.sent ≡ false }
+{
     Entry {
         item,
         addr,
