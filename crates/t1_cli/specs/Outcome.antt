@@ -35,7 +35,9 @@ report_of entry image f ending = record {
   config = first_config;
   image = record { entry = entry; ram = image };
   traces = trace_of f ending ∷ [];
+  log = [];
   order = program_order 0 f.items;
+  console = [];
 }
 
 abbrev pub outcome_at : ℕ → List ℕ → Flat → FlatEnd → Outcome

@@ -45,7 +45,9 @@ fn report(alloc: Global, image: Image, run: Run, ending: Ending) -> Result<Repor
         },
         image,
         traces: Listed::from_vec(traces),
+        log: Listed::new(alloc),
         order,
+        console: Listed::new(alloc),
     })
 }
 

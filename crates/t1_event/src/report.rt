@@ -1,5 +1,6 @@
 //! The report of a run.
 
+use crate::commit::Commit;
 use crate::trace::Trace;
 use t1_elf::{Image, Listed};
 
@@ -21,12 +22,16 @@ pub struct Place {
     pub item: u32,
 }
 
-/// A finished run: the machine, what its memory held at first, a trace for each strand, and the
-/// memory order.
+/// A finished run: the machine, what its memory held at first, a trace for each strand, the log of
+/// commits, the memory order, and the bytes that reached the console.
+///
+/// A run on one flat memory, which has no banks, has an empty log.
 #[derive(Drop)]
 pub struct Report {
     pub config: Config,
     pub image: Image,
     pub traces: Listed<Trace>,
+    pub log: Listed<Commit>,
     pub order: Listed<Place>,
+    pub console: Listed<u8>,
 }

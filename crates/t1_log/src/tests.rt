@@ -77,7 +77,9 @@ fn report(alloc: Global) -> Result<Report, AllocError> {
             ram: Listed::from_vec(Vec::from_slice(alloc, &ram)?),
         },
         traces: Listed::from_vec(traces),
+        log: Listed::new(alloc),
         order: Listed::from_vec(Vec::from_slice(alloc, &order)?),
+        console: Listed::new(alloc),
     })
 }
 
