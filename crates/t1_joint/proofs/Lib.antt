@@ -1,2 +1,4 @@
 pub mod More
 pub mod Units
+pub mod Needs
+pub mod Shapes

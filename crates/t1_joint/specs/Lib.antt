@@ -8,3 +8,6 @@ pub mod Waits
 pub mod Rows
 pub mod CoreRule
 pub mod Fit
+pub mod JointHistory
+pub mod Covered
+pub mod Shaped

@@ -1,0 +1,14 @@
+pub mod Order
+pub mod Joint
+pub mod Program
+pub mod Memory
+pub mod Tags
+pub mod Value
+pub mod Cover
+pub mod Once
+pub mod Doomed
+pub mod Few
+pub mod Lines
+pub mod Rams
+pub mod Facts
+pub mod Histories
