@@ -1,0 +1,6 @@
+pub mod Fields
+pub mod Tests
+pub mod Parsed
+pub mod Images
+pub mod Saved
+pub mod Laws
