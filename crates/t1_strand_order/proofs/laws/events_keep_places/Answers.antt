@@ -1,0 +1,5 @@
+use Rattle.t1_strand_order.proofs.laws.events_keep_places.Goals as goal
+use Rattle.t1_strand_order.proofs.Histories.{events_keep_places}
+
+pub returns : goal.returns
+returns c = events_keep_places

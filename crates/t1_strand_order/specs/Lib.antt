@@ -1,0 +1,6 @@
+pub mod Tracks
+pub mod Allowed
+pub mod Kept
+pub mod Places
+pub mod Example
+pub mod Laws
