@@ -1,0 +1,4 @@
+pub mod Lists
+pub mod Sorts
+pub mod Packets
+pub mod Sends
