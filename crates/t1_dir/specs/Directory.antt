@@ -1,8 +1,8 @@
 -- The shadow directory of a bank: for each core and cache a line or nothing in each slot
 -- (OpenSPARC T1 Microarchitecture Specification, chapter 4).
-use Rattle.std.specs.Prelude.{ℕ, ◌+◌, ◌<◌, List, [], ◌∷◌, length, get_or, set, replicate, Option, Some, None}
+use Rattle.std.specs.Prelude.{ℕ, ◌+◌, ◌%◌, ◌<◌, ◌≡◌, List, [], ◌∷◌, length, get_or, set, replicate, Option, Some, None}
 use Rattle.t1_shape.specs.Shapes.{Shape}
-use Rattle.t1_shape.specs.Slots.{slots_in, first_slot}
+use Rattle.t1_shape.specs.Slots.{Layout, slots_in, first_slot, slot_of}
 use Rattle.t1_packet.specs.declared.cache.Cache.{Cache}
 use Rattle.t1_packet.specs.declared.cache.Cache.TheVariants.{Dcache, Icache}
 use Rattle.t1_packet.specs.declared.op.Op.{Op}
@@ -26,6 +26,14 @@ directory_start shape cores = record { shape = shape; dcache = replicate cores (
 abbrev pub tags_at : DirectoryState → ℕ → Cache → List (Option ℕ)
 tags_at d core Dcache = get_or d.dcache core []
 tags_at d core Icache = get_or d.icache core []
+
+-- the way in which the directory shows a line, the lowest of its set, or none
+abbrev pub way_in : Layout → Option ℕ → Option ℕ
+way_in g None = None
+way_in g (Some slot) = Some (slot % g.ways)
+
+abbrev pub way_of : DirectoryState → ℕ → Cache → ℕ → Option ℕ
+way_of d core cache line = way_in (layout d.shape cache) (slot_of (layout d.shape cache) (tags_at d core cache) line)
 
 -- ---- one slot changed
 
@@ -63,3 +71,10 @@ filled_by d core op way = filled_at (filled_at d core Dcache (filled_line Dcache
 pub record HasCore (d : DirectoryState) (core : ℕ) : Type 0 where
   pub dcache : core < length d.dcache
   pub icache : core < length d.icache
+
+-- no core, or no core but one, shows the line
+abbrev pub IsHidden : DirectoryState → Cache → ℕ → Type 0
+IsHidden d cache line = (core : ℕ) → slot_of (layout d.shape cache) (tags_at d core cache) line ≡ None
+
+abbrev pub IsHiddenBut : DirectoryState → ℕ → Cache → ℕ → Type 0
+IsHiddenBut d own cache line = (core : ℕ) → (core ≡ own → ⊥) → slot_of (layout d.shape cache) (tags_at d core cache) line ≡ None

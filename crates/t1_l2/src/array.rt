@@ -177,6 +177,7 @@ impl BankArray {
     }
 
     /// The lowest slot of its set that holds the line.
+    #[inline(never)]
     fn slot_of(&self, line: u64) -> Option<usize>
         ensures { result ≡ slot_in self.now line }
     {

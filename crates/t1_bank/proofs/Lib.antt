@@ -1,0 +1,16 @@
+pub mod Rule
+pub mod DirTags
+pub mod Doomed
+pub mod Found
+pub mod Fit
+pub mod Steps
+pub mod Start
+pub mod Agree
+pub mod Few
+pub mod Shown
+pub mod Serve
+pub mod Lines
+pub mod Flat
+pub mod Link
+pub mod Idle
+pub mod Lawful
