@@ -1,0 +1,4 @@
+use Rattle.t1_l1.proofs.line.+put_in.Given as goal
+
+abbrev pub decreases-put_in : goal.decreases-put_in
+decreases-put_in g l = l.size

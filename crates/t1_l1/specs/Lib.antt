@@ -1,0 +1,4 @@
+pub mod Layouts
+pub mod Cache
+pub mod Arrays
+pub mod Laws
