@@ -11,4 +11,5 @@ pub mod BankRule
 pub mod Shadow
 pub mod Posts
 pub mod Places
+pub mod Printable
 pub mod Records

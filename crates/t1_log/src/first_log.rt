@@ -59,7 +59,11 @@ fn print_items<K: Sink>(strand: usize, items: &[Item], sink: &mut K) -> Result<(
 }
 
 /// Prints the line of a strand's end, where it has ended.
-fn print_ending<K: Sink>(strand: usize, trace: &Trace, sink: &mut K) -> Result<(), Failed>
+pub(crate) fn print_ending<K: Sink>(
+    strand: usize,
+    trace: &Trace,
+    sink: &mut K,
+) -> Result<(), Failed>
     ensures cause { HasCause (K.faults sink.old) (K.faults sink.new) result }
     ensures all { OnOk result (Grew (K.held sink.old) (K.held sink.new) (last_line_of strand trace.now)) }
     ensures part { OnErr result (GrewPart (K.held sink.old) (K.held sink.new) (last_line_of strand trace.now)) }

@@ -65,6 +65,18 @@ impl<const CAP: usize> Line<CAP> {
         self.text(digits);
     }
 
+    /// Appends a number below 256 in decimal digits.
+    #[tactic(auto, using(crate::proofs::Lengths::decimal_byte))]
+    pub fn short(&mut self, number: u8)
+        requires { length self.old + 3 ≤ CAP }
+        ensures value { self.new ≡ self.old ++ decimal number }
+        ensures len { length self.new ≤ length self.old + 3 }
+    {
+        let mut buffer = Buffer::new();
+        let digits = buffer.format(number);
+        self.text(digits);
+    }
+
     /// Appends so many low hexadecimal digits of a number, in small letters.
     #[tactic(auto, unfolding(crate::specs::Hex::hex_of))]
     pub fn hex(&mut self, digits: u32, number: u64)

@@ -11,10 +11,13 @@ use t1_event::{Config, Place};
 use t1_io::{Failed, Sink, write_all};
 
 /// Writes a line, by one call of `write_all`.
-pub(crate) fn write_line<K: Sink>(sink: &mut K, line: Line<ROOM>) -> Result<(), Failed>
+pub(crate) fn write_line<K: Sink, const CAP: usize>(
+    sink: &mut K,
+    line: Line<CAP>,
+) -> Result<(), Failed>
     ensures cause { HasCause (K.faults sink.old) (K.faults sink.new) result }
-    ensures all { OnOk result (Grew (K.held sink.old) (K.held sink.new) line) }
-    ensures part { OnErr result (GrewPart (K.held sink.old) (K.held sink.new) line) }
+    ensures all { OnOk result (Grew (K.held sink.old) (K.held sink.new) line.entry) }
+    ensures part { OnErr result (GrewPart (K.held sink.old) (K.held sink.new) line.entry) }
 {
     write_all(sink, line.as_slice())
 }
