@@ -1,5 +1,5 @@
 -- Parts that fit: rings between them, each core's rule, each destination's, and the crossbar's.
-use Rattle.std.specs.Prelude.{ℕ, ◌≡◌, ◌<◌, ◌≤◌, nat_lt, if◌then◌else◌, List, [], ◌∷◌, length, map, Some}
+use Rattle.std.specs.Prelude.{ℕ, ◌≡◌, ◌<◌, ◌≤◌, nat_lt, if◌then◌else◌, zero, suc, List, [], ◌∷◌, ◌++◌, length, map, Some}
 use Rattle.std.specs.List.{slice_get}
 use Rattle.t1_shape.specs.Shapes.{Shape}
 use Rattle.t1_shape.specs.Numbers.{banks}
@@ -8,6 +8,7 @@ use Rattle.t1_packet.specs.Data.{RequestData}
 use Rattle.t1_packet.specs.Ops.{op_dest}
 use Rattle.t1_event.specs.declared.commit.Commit.{Commit}
 use Rattle.t1_event.specs.declared.trace.Ending.{Ending}
+use Rattle.t1_event.specs.declared.trace.Trace.{Trace}
 use Rattle.t1_event.specs.Log.{commit_of}
 use Rattle.t1_event.specs.BankRule.{BankState, bank_start, served_by, bank_with, refused}
 use Rattle.t1_joint.specs.Lists.{IsIn, IsPrefix}
@@ -83,3 +84,12 @@ pub record HasEnded (p : CorePart) (s : ℕ) : Type 0 where
 
 abbrev pub AreOver : Setup → Parts → Type 0
 AreOver w p = (c s : ℕ) → c < w.config.cores → s < w.config.strands → HasEnded (p.core c) s
+
+-- ---- the traces of all strands, core by core
+
+abbrev pub traces_from : (ℕ → CorePart) → ℕ → ℕ → List Trace
+traces_from core c zero = []
+traces_from core c (suc n) = (core c).traces ++ traces_from core (suc c) n
+
+abbrev pub traces_of : Setup → Parts → List Trace
+traces_of w p = traces_from p.core 0 w.config.cores

@@ -50,20 +50,21 @@ io_false addr ram below small =
     ap (λ (b : Bool). b && (addr / 2 ^ 40 == 0)) (ne_eqb (addr / 2 ^ 39 % 2) 1 ne)
 
 -- where an access lies, and where its request goes
-pub LiesAt : Shape → ℕ → ℕ → Type 0
+abbrev pub LiesAt : Shape → ℕ → ℕ → Type 0
 LiesAt shape ram addr = ((addr < ram) × (dest_of shape addr < banks shape)) ⊎ (IsIo addr × (dest_of shape addr ≡ io_bridge shape))
 
-in_ram : (shape : Shape) (ram addr : ℕ) → ram < 2 ^ 39 → addr < ram → LiesAt shape ram addr
-unfolding LiesAt
+pub dest_in_ram : (shape : Shape) (ram addr : ℕ) → ram < 2 ^ 39 → addr < ram → dest_of shape addr ≡ bank_at shape addr
+dest_in_ram shape ram addr small below = ap (λ (b : Bool). cond b (io_bridge shape) (bank_at shape addr)) (io_false addr ram below small)
+
+pub in_ram : (shape : Shape) (ram addr : ℕ) → ram < 2 ^ 39 → addr < ram → LiesAt shape ram addr
 in_ram shape ram addr small below =
     let e : dest_of shape addr ≡ bank_at shape addr = ap (λ (b : Bool). cond b (io_bridge shape) (bank_at shape addr)) (io_false addr ram below small) in
     inl (below, omega (arith, e, bank_below shape addr))
 
-in_io : (shape : Shape) (ram addr : ℕ) → IsIo addr → LiesAt shape ram addr
-unfolding LiesAt
+pub in_io : (shape : Shape) (ram addr : ℕ) → IsIo addr → LiesAt shape ram addr
 in_io shape ram addr io = inr (io, ap (λ (b : Bool). cond b (io_bridge shape) (bank_at shape addr)) (io_true addr io))
 
-begins : (addr size ram : ℕ) → IsSize size → addr + size ≤ ram → addr < ram
+pub begins : (addr size ram : ℕ) → IsSize size → addr + size ≤ ram → addr < ram
 begins addr size ram s l = omega (arith, s, l)
 
 pub lies_at : (shape : Shape) (ram : ℕ) (x : Item) (k : ItemKind) → ram < 2 ^ 39 → IsSize x.size → IsAccess k → LiesRightly ram x k → LiesAt shape ram x.addr
@@ -129,7 +130,6 @@ module _ (w : Setup) (traces : List Trace) (log : List Commit) (j : IsJointHisto
   -- where a commit's access lies, and which destination served it
   served_where : (n : ℕ) (c : Commit) → slice_get log n ≡ Some c
       → ((op_addr c.op < length w.image.ram) × (c.dest < banks w.shape)) ⊎ (IsIo (op_addr c.op) × (c.dest ≡ io_bridge w.shape))
-  unfolding LiesAt
   served_where n c is =
       let nx = j.naming.names n c is in
       let r = j.banks.record_is n c nx.0 is nx.2 in

@@ -3,6 +3,8 @@ pub mod Joint
 pub mod Program
 pub mod Memory
 pub mod Tags
+pub mod LineBytes
+pub mod Limits
 pub mod Value
 pub mod Cover
 pub mod Once

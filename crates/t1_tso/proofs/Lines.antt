@@ -30,7 +30,7 @@ use Rattle.t1_packet.proofs.Caches.{slot_in_cache}
 use Rattle.t1_tso.proofs.Joint.{Joint}
 use Rattle.t1_tso.proofs.Memory.{length-memory_at}
 use Rattle.t1_tso.proofs.Tags.{tag_at, tags-with_kills}
-use Rattle.t1_tso.proofs.Value.{same_line}
+use Rattle.t1_tso.proofs.LineBytes.{same_line}
 use Rattle.t1_tso.proofs.Cover.{FewKills, with_commit_in, post_is, covered}
 use Rattle.t1_tso.proofs.Once.{left_by_kills, once-with_kills, directory_once}
 use Rattle.t1_tso.proofs.Doomed.{Hits, hit_empty, hits_below}

@@ -33,7 +33,7 @@ once-with_kills shape g core cache ks tags o = record {
   once = λ i k l e f. o.once i k l (left_by_kills shape core cache ks tags i l e) (left_by_kills shape core cache ks tags k l f);
 }
 
-once-with_fill : (g : Layout) (tags left : List (Option ℕ)) (fill way : Option ℕ) → IsOnce g left
+pub once-with_fill : (g : Layout) (tags left : List (Option ℕ)) (fill way : Option ℕ) → IsOnce g left
     → ((k l : ℕ) → get_or left k None ≡ Some l → get_or tags k None ≡ Some l)
     → ((line w : ℕ) → fill ≡ Some line → way ≡ Some w → IsFree g tags line w)
     → IsOnce g (with_fill g fill way (λ line. line) left)

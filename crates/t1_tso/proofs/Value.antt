@@ -1,12 +1,10 @@
 -- The value axiom of a joint history whose L1 lines hold memory.
-use Rattle.std.proofs.Common.{◌≡◌, ℕ, ◌+◌, ◌*◌, ◌/◌, ◌%◌, ◌<◌, ◌≤◌, ◌⊎◌, inl, inr, true, false, List, [], length, get_or, take, drop, Option, Some, None, refl, ap, sym, ◌∙◌, subst, arith}
+use Rattle.std.proofs.Common.{◌≡◌, ℕ, ◌+◌, ◌*◌, ◌%◌, ◌<◌, ◌≤◌, ◌⊎◌, inl, inr, List, [], length, get_or, Option, Some, None, refl, ap, sym, ◌∙◌, subst, arith}
 use Rattle.std.specs.List.{slice_get}
 use Rattle.std.proofs.lemmas.Bool.{cases_lt, cases_eq, cases_order}
-use Rattle.std.proofs.lemmas.List.{get_or-take, get_or-drop, get_or_past}
+use Rattle.std.proofs.lemmas.List.{get_or_past}
 use Rattle.std.proofs.lemmas.Nat.{div_below}
-use Rattle.t1_num.specs.Memory.{IsSize}
-use Rattle.t1_shape.specs.Slots.{Layout, Line, slot_of, tag, tags_of, at_slot, line_in}
-use Rattle.t1_shape.proofs.Slots.{slot_some}
+use Rattle.t1_shape.specs.Slots.{Line}
 use Rattle.t1_packet.specs.declared.cache.Cache.{Cache}
 use Rattle.t1_packet.specs.declared.cache.Cache.TheVariants.{Dcache, Icache}
 use Rattle.t1_packet.specs.declared.op.Op.{Op}
@@ -18,10 +16,10 @@ use Rattle.t1_event.specs.declared.item.How.{How}
 use Rattle.t1_event.specs.declared.item.How.TheVariants as how
 use Rattle.t1_event.specs.declared.report.Place.{Place}
 use Rattle.t1_event.specs.declared.commit.Commit.{Commit}
-use Rattle.t1_event.specs.Kinds.{IsRead, IsWrite, IsAccess, IsChanging}
+use Rattle.t1_event.specs.Kinds.{IsRead, IsAccess, IsChanging}
 use Rattle.t1_event.specs.Items.{Covers, byte_got, byte_put, IsIo}
 use Rattle.t1_event.specs.Order.{Act, place_of, Earlier, Before, IsCandidate, IsLastWrite, ObeysTso}
-use Rattle.t1_event.specs.Times.{at_of, done_of, IsCommit}
+use Rattle.t1_event.specs.Times.{at_of, done_of}
 use Rattle.t1_event.specs.Keys.{major, IsOrderByKeys}
 use Rattle.t1_event.specs.Log.{memory_at}
 use Rattle.t1_event.specs.Records.{op_of}
@@ -29,131 +27,16 @@ use Rattle.t1_event.specs.Posts.{memory_line}
 use Rattle.t1_event.specs.Places.{Run, home, cache_at, IsRam, GotMemory, GotLine, IsHeld, Overlaps, NoneOverlaps, IsForwarded, FetchPlaced, LoadPlaced, AtomicPlaced, Row}
 use Rattle.t1_joint.specs.JointHistory.{Names}
 use Rattle.t1_tso.proofs.Joint.{Joint, read_access, write_access, ram_ends}
-use Rattle.t1_tso.proofs.Order.{SeenBeforeIndex, before_from_key, key_from_before}
+use Rattle.t1_tso.proofs.Order.{before_from_key, key_from_before}
 use Rattle.t1_tso.proofs.Program.{seen_before, load_op, store_store, barrier}
 use Rattle.t1_tso.proofs.Memory.{OpCovers, op_byte, memory_byte}
-use Rattle.t1_tso.proofs.Tags.{tag_at}
+use Rattle.t1_tso.proofs.Limits.{change_covers, covers_change, change_write, as_commit, write_commits, limit_major, major_limit, same_major, at_limit, limit}
+use Rattle.t1_tso.proofs.LineBytes.{same_line, line_byte, found_line}
 
 -- each valid line of the caches holds its bytes of memory, whatever the time
 abbrev pub LinesHold : Run → Type 0
 LinesHold h = (core : ℕ) (cache : Cache) (t slot : ℕ) (line : Line) → core < h.cores
     → get_or (cache_at h core cache t) slot None ≡ Some line → line.bytes ≡ memory_line cache (memory_at h.image h.log t) line.number
-
--- ---- an op and its item
-
-change_covers : (x : Item) (way : Option ℕ) (k : ItemKind) (a : ℕ) → IsChanging k → Covers x a → OpCovers (op_of x way k) a
-change_covers x way kind.Store a c p = p
-change_covers x way (kind.Atomic true) a c p = p
-change_covers x way (kind.Atomic false) a c p = cc
-change_covers x way kind.Fetch a c p = cc
-change_covers x way kind.Load a c p = cc
-change_covers x way kind.Membar a c p = cc
-change_covers x way kind.Flush a c p = cc
-
-covers_change : (x : Item) (way : Option ℕ) (k : ItemKind) (a : ℕ) → OpCovers (op_of x way k) a → IsChanging k × Covers x a × (op_byte (op_of x way k) a ≡ byte_put x a)
-covers_change x way kind.Store a p = (refl, p, refl)
-covers_change x way (kind.Atomic true) a p = (refl, p, refl)
-covers_change x way (kind.Atomic false) a p = absurd p
-covers_change x way kind.Fetch a p = absurd p
-covers_change x way kind.Load a p = absurd p
-covers_change x way kind.Membar a p = absurd p
-covers_change x way kind.Flush a p = absurd p
-
-change_write : (k : ItemKind) → IsChanging k → IsWrite k
-change_write kind.Store c = refl
-change_write (kind.Atomic w) c = refl
-change_write kind.Fetch c = cc
-change_write kind.Load c = cc
-change_write kind.Membar c = cc
-change_write kind.Flush c = cc
-
-commit_of : (w : How) → IsCommit w → (n : ℕ) × (s : ℕ) × (w ≡ how.Commit n s)
-commit_of (how.Commit n s) p = (n, s, refl)
-commit_of how.Unplaced p = absurd p
-commit_of (how.Forward t) p = absurd p
-commit_of (how.Hit t) p = absurd p
-
-atomic_commit : (h : Run) (x : Act h.traces) (w : How) → AtomicPlaced h x w → IsCommit w
-atomic_commit h x (how.Commit n s) p = tt
-atomic_commit h x how.Unplaced p = absurd p
-atomic_commit h x (how.Forward t) p = absurd p
-atomic_commit h x (how.Hit t) p = absurd p
-
-write_commits : (h : Run) (x : Act h.traces) (k : ItemKind) → IsWrite k → Row h x k → IsCommit x.item.how
-write_commits h x kind.Store w p = p
-write_commits h x (kind.Atomic b) w p = atomic_commit h x x.item.how p.1
-write_commits h x kind.Fetch w p = cc
-write_commits h x kind.Load w p = cc
-write_commits h x kind.Membar w p = cc
-write_commits h x kind.Flush w p = cc
-
--- the commits below it stand before the item
-abbrev pub limit : How → ℕ
-limit how.Unplaced = 0
-limit (how.Forward t) = t
-limit (how.Hit t) = t
-limit (how.Commit n s) = n
-
-limit_major : (w : How) (n : ℕ) → n < limit w → 2 * n + 1 < major w
-limit_major how.Unplaced n l = absurd (omega arith)
-limit_major (how.Forward t) n l = omega arith
-limit_major (how.Hit t) n l = omega arith
-limit_major (how.Commit m s) n l = omega arith
-
-major_limit : (w : How) (n : ℕ) → 2 * n + 1 < major w → n < limit w
-major_limit how.Unplaced n l = absurd (omega arith)
-major_limit (how.Forward t) n l = omega arith
-major_limit (how.Hit t) n l = omega arith
-major_limit (how.Commit m s) n l = omega arith
-
--- only a commit has a commit's key
-same_major : (w : How) (n : ℕ) → 2 * n + 1 ≡ major w → (s : ℕ) × (w ≡ how.Commit n s)
-same_major how.Unplaced n e = absurd (omega arith)
-same_major (how.Forward t) n e = absurd (omega arith)
-same_major (how.Hit t) n e = absurd (omega arith)
-same_major (how.Commit m s) n e = let same : m ≡ n = omega arith in (s, ap (λ (k : ℕ). how.Commit k s) same)
-
-at_limit : (w : How) → SeenBeforeIndex w → at_of w ≤ limit w
-at_limit how.Unplaced p = absurd p
-at_limit (how.Forward t) p = omega arith
-at_limit (how.Hit t) p = omega arith
-at_limit (how.Commit n s) p = p
-
--- ---- bytes of a line
-
-same_line_16 : (addr size a : ℕ) → IsSize size → addr % size ≡ 0 → addr ≤ a → a < addr + size → a / 16 ≡ addr / 16
-same_line_16 addr size a s al l r =
-    elim s [
-      | inl e ↦ omega (arith, e)
-      | inr (inl e) ↦ let al' : addr % 2 ≡ 0 = subst (λ (n : ℕ). addr % n ≡ 0) e al in omega (arith, e, al')
-      | inr (inr (inl e)) ↦ let al' : addr % 4 ≡ 0 = subst (λ (n : ℕ). addr % n ≡ 0) e al in omega (arith, e, al')
-      | inr (inr (inr e)) ↦ let al' : addr % 8 ≡ 0 = subst (λ (n : ℕ). addr % n ≡ 0) e al in omega (arith, e, al')
-    ]
-
-pub same_line : (cache : Cache) (addr size a : ℕ) → IsSize size → addr % size ≡ 0 → addr ≤ a → a < addr + size → line_of cache a ≡ line_of cache addr
-same_line Dcache addr size a s al l r = same_line_16 addr size a s al l r
-same_line Icache addr size a s al l r = let e = same_line_16 addr size a s al l r in omega (arith, e)
-
-line_byte_at : (w q r : ℕ) (m : List ℕ) (a : ℕ) → r < w → q * w + r ≡ a → get_or (take w (drop (q * w) m)) r 0 ≡ get_or m a 0
-line_byte_at w q r m a l e =
-    get_or-take w (drop (q * w) m) r 0 l ∙ (get_or-drop (q * w) m r 0 ∙ ap (λ (i : ℕ). get_or m i 0) e)
-
--- the byte of a line of memory
-pub line_byte : (cache : Cache) (m : List ℕ) (a : ℕ) → get_or (memory_line cache m (line_of cache a)) (a % width cache) 0 ≡ get_or m a 0
-line_byte Dcache m a = line_byte_at 16 (a / 16) (a % 16) m a (omega arith) (omega arith)
-line_byte Icache m a = line_byte_at 32 (a / 32) (a % 32) m a (omega arith) (omega arith)
-
--- a line that is found stands in a slot, and is that line
-pub found_line : (g : Layout) (slots : List (Option Line)) (line : ℕ) (l : Line) → line_in g slots line ≡ Some l
-    → (j : ℕ) × (get_or slots j None ≡ Some l) × (l.number ≡ line)
-found_line g slots line l e = go (slot_of g (tags_of slots) line) refl
-  where
-    go : (o : Option ℕ) → slot_of g (tags_of slots) line ≡ o → (j : ℕ) × (get_or slots j None ≡ Some l) × (l.number ≡ line)
-    go None is = let bad : None ≡ Some l = sym (ap (λ (o : Option ℕ). at_slot slots o) is) ∙ e in cc
-    go (Some j) is =
-        let here : get_or slots j None ≡ Some l = sym (ap (λ (o : Option ℕ). at_slot slots o) is) ∙ e in
-        let t : Some l.number ≡ Some line = sym (ap (λ (o : Option Line). tag o) here) ∙ (sym (tag_at slots j) ∙ (slot_some g (tags_of slots) line j is).is) in
-        (j, here, (let q : l.number ≡ line = cc in q))
 
 -- a strand of the traces is one of a core
 no_item : (xs : List Item) (k : ℕ) (x : Item) → xs ≡ [] → slice_get xs k ≡ Some x → ⊥
@@ -177,7 +60,7 @@ module _ (h : Run) (j : Joint h) (order : List Place) (o : IsOrderByKeys h.trace
   changed : (w : Act h.traces) → IsChanging w.item.kind → Changed w
   changed w c =
       let iw = change_write w.item.kind c in
-      let at = commit_of w.item.how (write_commits h w w.item.kind iw (j.rows w (write_access w.item.kind iw))) in
+      let at = as_commit w.item.how (write_commits h w w.item.kind iw (j.rows w (write_access w.item.kind iw))) in
       let named = j.naming.named w at.0 at.1 at.2 in
       record { index = at.0; commit = named.0; is = named.1; names = named.2 }
 
