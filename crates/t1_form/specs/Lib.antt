@@ -1,0 +1,4 @@
+pub mod Mnemonics
+pub mod Names
+pub mod Options
+pub mod Shapes
