@@ -73,15 +73,15 @@ fn add_core(
         return;
     }
     match op {
-        Op::Store { addr, .. } => {
+        Op::Store { addr: stored, .. } => {
             if !own {
-                add_copy(directory, core, Cache::Dcache, addr, kills);
+                add_copy(directory, core, Cache::Dcache, stored, kills);
             }
-            add_copy(directory, core, Cache::Icache, addr, kills);
+            add_copy(directory, core, Cache::Icache, stored, kills);
         }
-        Op::Swap { addr, .. } => {
-            add_copy(directory, core, Cache::Dcache, addr, kills);
-            add_copy(directory, core, Cache::Icache, addr, kills);
+        Op::Swap { addr: swapped, .. } => {
+            add_copy(directory, core, Cache::Dcache, swapped, kills);
+            add_copy(directory, core, Cache::Icache, swapped, kills);
         }
         _ => {}
     }

@@ -34,7 +34,11 @@ fn mark_of(line: u64) -> u32
 fn has_mark(row: &[u32; 32], mark: u32) -> bool
     ensures { result ≡ false → (i : ℕ) → i < 32 → get_or row.now i 0 ≡ mark → ⊥ }
 {
-    row.contains(&mark)
+    let mut found = false;
+    for one in row {
+        found |= *one == mark;
+    }
+    found
 }
 
 /// A row in which the four ways of a core have another mark.

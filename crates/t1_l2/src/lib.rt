@@ -13,5 +13,7 @@
 #![tactic(auto)]
 
 mod array;
+#[cfg(test)]
+mod tests;
 
 pub use array::BankArray;
