@@ -19,7 +19,8 @@ use Rattle.t1_joint.specs.Replay.{Bounds, Replay, Done, units, started}
 use Rattle.t1_joint.specs.Follows.{Follows, IsTraceOf}
 use Rattle.t1_joint.specs.CoreRule.{ending_at}
 use Rattle.t1_tso.proofs.Order.{same_item}
-use Rattle.t1_fit.specs.Laws.{FittingPartsAreAJointHistory, FittingPartsHaveProperPackets}
+use Rattle.t1_tso.proofs.Histories.{history_obeys_tso}
+use Rattle.t1_fit.specs.Laws.{FittingPartsAreAJointHistory, FittingPartsHaveProperPackets, FittingPartsObeyTso}
 use Rattle.t1_fit.proofs.Joins.{kept, proper_of}
 use Rattle.t1_fit.proofs.Flat.{length_flat, flat_get, core_in}
 use Rattle.t1_fit.proofs.Behind.{sizes, seen_before, times_at, record_of_item, by_bank, by_bridge, filled_rightly}
@@ -90,3 +91,6 @@ fitting_parts_are_history w p setup f over = history w setup p f over
 
 pub packets_are_proper : FittingPartsHaveProperPackets
 packets_are_proper w p setup f c = proper_of w setup p f c
+
+pub fitting_parts_tso : FittingPartsObeyTso
+fitting_parts_tso w p order setup f over o = history_obeys_tso w (traces_of w p) p.crossbar.log order (history w setup p f over) o

@@ -16,3 +16,6 @@ pub mod Flat
 pub mod Behind
 pub mod Ends
 pub mod History
+pub mod ExampleStrand
+pub mod ExampleAccess
+pub mod Example
