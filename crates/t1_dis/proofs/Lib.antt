@@ -1,0 +1,10 @@
+pub mod Joins
+pub mod Lines
+pub mod Mnemonics
+pub mod NameTokens
+pub mod Numbers
+pub mod Reading
+pub mod Room
+pub mod Shown
+pub mod Tokens
+pub mod Words
