@@ -1,0 +1,5 @@
+pub mod Heads
+pub mod Merge
+pub mod Next
+pub mod Orderable
+pub mod Unique
