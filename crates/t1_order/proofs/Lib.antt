@@ -1,3 +1,4 @@
+pub mod Data
 pub mod Listing
 pub mod Places
 pub mod Start

@@ -1,3 +1,4 @@
+pub mod Checked
 pub mod Heads
 pub mod Merge
 pub mod Next

@@ -6,6 +6,8 @@
 //! tree, so the work is linear in the items times the logarithm of the strands, and no memory is taken.
 #![tactic(auto)]
 
+#[cfg(test)]
+mod checked;
 mod heads;
 pub mod laws;
 mod merge;

@@ -5,7 +5,7 @@ ghost use Rattle.t1_order.specs.Next.{time_of, IsNext, NoneBetween};
 use t1_event::{How, Item, ItemKind};
 
 /// The time of an access that hit or was forwarded; none of any other item.
-fn time_of(item: &Item) -> Option<u32>
+pub(crate) fn time_of(item: &Item) -> Option<u32>
     ensures { result ≡ time_of item.now }
 {
     match item.kind {
