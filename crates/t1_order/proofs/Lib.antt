@@ -1,4 +1,5 @@
 pub mod Data
+pub mod Joint
 pub mod Listing
 pub mod Places
 pub mod Start

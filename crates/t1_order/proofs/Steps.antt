@@ -20,7 +20,8 @@ use Rattle.t1_order.specs.declared.heads.Head.{Head}
 use Rattle.t1_order.specs.declared.merge.Rest.{Rest}
 use Rattle.t1_order.specs.Heads.{IsLeast, IsFirst}
 use Rattle.t1_order.specs.Next.{hit_time, time_of, IsTimed, IsNext}
-use Rattle.t1_order.specs.Orderable.{Names, AreOrderable, TimesNeverFall}
+use Rattle.t1_joint.specs.JointHistory.{Names}
+use Rattle.t1_order.specs.Orderable.{AreOrderable, TimesNeverFall}
 use Rattle.t1_order.specs.Merge.{IsListedAt, IsListed, IsRest, AreAllListed, CommitComes, IsPassed, IsNextPlace}
 use Rattle.t1_event.proofs.Accesses.{place_at}
 use Rattle.t1_order.proofs.Places.{same_item, same_place}
@@ -91,7 +92,7 @@ is_at x time access placed timed =
     ]
 
 -- what has a time is an access
-timed_access : (item : Item) (time : ℕ) → time_of item ≡ Some time → IsAccess item.kind
+pub timed_access : (item : Item) (time : ℕ) → time_of item ≡ Some time → IsAccess item.kind
 timed_access item time e =
     elim (cases_Bool (is_access item.kind)) [
       | inl access ↦ access

@@ -1,5 +1,6 @@
 pub mod Checked
 pub mod Heads
+pub mod Joint
 pub mod Merge
 pub mod Next
 pub mod Orderable

@@ -9,13 +9,8 @@ use Rattle.t1_event.specs.Kinds.{is_access, IsAccess}
 use Rattle.t1_event.specs.Times.{IsPlaced}
 use Rattle.t1_event.specs.Order.{Act, Earlier}
 use Rattle.t1_event.specs.Keys.{IsOrderByKeys}
+use Rattle.t1_joint.specs.JointHistory.{Names}
 use Rattle.t1_order.specs.Next.{time_of}
-
--- commit n names this item
-pub record Names {traces : List (List Item)} (commit : Commit) (n : ℕ) (x : Act traces) : Type 0 where
-  pub strand : commit.strand ≡ x.strand
-  pub item : commit.item ≡ x.number
-  pub how_is : x.item.how ≡ how.Commit n commit.seen
 
 -- each access has a place, and those that are placed as commits are those that the log names
 pub record AreNamed (traces : List (List Item)) (log : List Commit) : Type 0 where

@@ -154,6 +154,7 @@ fn orders_ascend_by_keys(rt: HostRuntime) -> Result<(), AllocError> {
 }
 
 #[test]
-fn there_is_one_order() {
+fn joint_histories_have_one_order() {
     laws::orders_by_keys_are_unique();
+    laws::joint_histories_are_orderable();
 }
