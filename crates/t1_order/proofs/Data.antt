@@ -11,7 +11,6 @@ use Rattle.t1_event.specs.declared.commit.Commit.{Commit}
 use Rattle.t1_event.specs.Kinds.{is_access}
 use Rattle.t1_event.specs.Order.{Act}
 use Rattle.t1_order.specs.Next.{time_of}
-use Rattle.t1_joint.specs.JointHistory.{Names}
 use Rattle.t1_order.specs.Orderable.{AreOrderable, accesses_in}
 use Rattle.t1_order.specs.Checked.{IsPlacedBy, AreTimesUpTo, IsStrand, AreStrands, AreCommits, GoesOn}
 use Rattle.t1_order.proofs.Steps.{strand_within}

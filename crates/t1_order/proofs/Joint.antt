@@ -1,6 +1,6 @@
 -- In a joint history the times along a strand never fall: an access that has a time is a read, and was
 -- done at its time.
-use Rattle.std.proofs.Common.{◌≡◌, ℕ, ◌≤◌, Bool, true, false, true≢false, cond, List, length, Option, Some, None, refl, sym, ap, ◌∙◌, arith}
+use Rattle.std.proofs.Common.{◌≡◌, ℕ, true, true≢false, cond, List, Some, None, refl, sym, ap, ◌∙◌, arith}
 use Rattle.std.proofs.lemmas.Option.{none-some, same_Some}
 use Rattle.t1_event.specs.declared.item.Item.{Item}
 use Rattle.t1_event.specs.declared.item.How.{How}
@@ -9,15 +9,15 @@ use Rattle.t1_event.specs.declared.item.ItemKind.{ItemKind}
 use Rattle.t1_event.specs.declared.item.ItemKind.TheVariants as kind
 use Rattle.t1_event.specs.declared.commit.Commit.{Commit}
 use Rattle.t1_event.specs.declared.trace.Trace.{Trace}
-use Rattle.t1_event.specs.Kinds.{is_access, IsAccess, IsRead}
+use Rattle.t1_event.specs.Kinds.{is_access, IsRead}
 use Rattle.t1_event.specs.Items.{items_of}
 use Rattle.t1_event.specs.Times.{at_of, done_of, IsCommit}
-use Rattle.t1_event.specs.Order.{Act, Earlier}
+use Rattle.t1_event.specs.Order.{Act}
 use Rattle.t1_event.specs.Places.{Run, Row}
 use Rattle.t1_joint.specs.Start.{Setup}
 use Rattle.t1_joint.specs.JointHistory.{run_of, IsJointHistory}
 use Rattle.t1_order.specs.Next.{hit_time, time_of}
-use Rattle.t1_order.specs.Orderable.{AreShort, AreOrderable, TimesNeverFall}
+use Rattle.t1_order.specs.Orderable.{TimesNeverFall}
 use Rattle.t1_order.specs.Joint.{JointHistoriesAreOrderable}
 use Rattle.t1_order.proofs.Steps.{timed_access}
 

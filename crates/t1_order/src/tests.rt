@@ -154,6 +154,22 @@ fn orders_ascend_by_keys(rt: HostRuntime) -> Result<(), AllocError> {
 }
 
 #[test]
+fn strands_take_turns_at_one_time(rt: HostRuntime) -> Result<(), AllocError> {
+    let alloc = rt.alloc();
+    let pair = [hit(5), hit(7)];
+    let strands: [&[Item]; 64] = [&pair; 64];
+    let got = ordered(&rt, alloc, &strands, &[])?;
+    let mut want = Vec::new(alloc);
+    for item in 0..2 {
+        for strand in 0..64 {
+            want.push((strand, item))?;
+        }
+    }
+    assert_eq!(rt; got.as_slice(), want.as_slice());
+    Ok(())
+}
+
+#[test]
 fn joint_histories_have_one_order() {
     laws::orders_by_keys_are_unique();
     laws::joint_histories_are_orderable();
