@@ -1,0 +1,12 @@
+pub mod Sends
+pub mod Drains
+pub mod Values
+pub mod Quiet
+pub mod Begins
+pub mod Turning
+pub mod ReplayUnits
+pub mod ReplayBytes
+pub mod ReplaySteps
+pub mod ReplayTakes
+pub mod Times
+pub mod Joined

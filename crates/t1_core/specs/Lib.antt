@@ -1,0 +1,12 @@
+pub mod Stores
+pub mod Threads
+pub mod Steps
+pub mod Takes
+pub mod Turns
+pub mod Room
+pub mod Start
+pub mod Told
+pub mod Ends
+pub mod Askers
+pub mod Replays
+pub mod Laws

@@ -1,0 +1,12 @@
+//! Who asks, and when.
+
+/// A strand of a core that executes or drains: which rings have room (a bit for each destination),
+/// the core's time, and the bytes of RAM.
+#[derive(Clone, Copy, Debug, PartialEq, Eq)]
+pub struct Asker {
+    pub number: u8,
+    pub strand: u8,
+    pub room: u16,
+    pub time: u32,
+    pub ram: u64,
+}

@@ -1,0 +1,357 @@
+//! The core: its parts and its calls.
+ghost use Rattle.std.specs.Prelude.{ℕ, ◌≡◌, ◌+◌, ◌-◌, ◌*◌, ◌%◌, ◌^◌, ◌<◌, ◌≤◌, ◌∷◌, ◌++◌, [], length, slice_get, slice_index, is_some, is_none, Some, None, true, false, IfOk, IfSome, IfNone};
+ghost use Rattle.t1_exec.specs.Needs.{IsRam};
+ghost use Rattle.t1_packet.specs.Data.{KillData};
+ghost use Rattle.t1_event.specs.declared.report.Config.{Config as ConfigData};
+ghost use Rattle.t1_select.specs.Queue.{moved_last, first_ready};
+ghost use Rattle.t1_core.specs.Steps.{CoreState, asker, exec_of, wait_of, drain_of};
+ghost use Rattle.t1_core.specs.Takes.{emptied_in, killed_by, killed, answered, take_of};
+ghost use Rattle.t1_core.specs.Turns.{is_ready, ready_bit, ready_word, next_place, turn_of};
+ghost use Rattle.t1_core.specs.Room.{IsCoreConfig};
+ghost use Rattle.t1_core.specs.Start.{threads_from, new_core};
+ghost use Rattle.t1_core.specs.Told.{HasRing, HasDrainRing, WaitsStill, DrainsStill, ActedAt};
+ghost use Rattle.t1_core.specs.Ends.{finished_of, traces_of};
+
+use crate::answers::{Did, Drained, Wait};
+use crate::asker::Asker;
+use crate::replies::answer;
+use crate::steps::{drain, drain_answer, exec};
+use crate::thread::Thread;
+use crate::waits::wait;
+use std::alloc::{AllocError, Global};
+use std::marker::Model;
+use t1_event::{Config, Trace};
+use t1_l1::L1;
+use t1_packet::{Cache, Kill, Packet, Reply};
+use t1_select::Select;
+use t1_state::Strand;
+
+/// A core of the chip, seen as its whole state. Only `new` takes memory.
+///
+/// In each word `room` bit d says that the request ring to destination d has room.
+#[derive(Drop)]
+pub struct Core {
+    number: u8,
+    threads: Vec<Thread>,
+    dcache: L1<4, 16>,
+    icache: L1<4, 32>,
+    time: u32,
+    ram: u64,
+    select: Select,
+    traces: Vec<Trace>,
+}
+
+impl Model for Core {
+    ghost use Rattle.std.specs.Prelude.{vec_capacity};
+    ghost use Rattle.t1_core.specs.Steps.{CoreState};
+    ghost use Rattle.t1_core.specs.Room.{AreParts};
+
+    ghost Value = { CoreState };
+
+    ghost view = { λ c. record {
+      number = c.number;
+      threads = c.threads.items;
+      dcache = c.dcache;
+      icache = c.icache;
+      time = c.time;
+      ram = c.ram;
+      turns = c.select;
+    } };
+
+    ghost invariant = { λ c. AreParts c.number c.threads.items c.ram c.select c.traces.items (vec_capacity c.traces) };
+}
+
+/// Which place of the queue acted, and what its strand did.
+#[derive(Clone, Copy, Debug, PartialEq, Eq)]
+struct Acted {
+    place: usize,
+    did: Did,
+}
+
+/// The strands of a core in their start states, numbered from a number on.
+#[tactic(auto, using(crate::proofs::Begins::one_thread_more), unfolding(crate::specs::Start::threads_from))]
+fn first_threads(
+    alloc: Global,
+    config: &Config,
+    number: u8,
+    entry: u64,
+) -> Result<Vec<Thread>, AllocError>
+    requires config { IsCoreConfig config.now }
+    requires number { number + config.now.strands ≤ 32 }
+    ensures threads { IfOk result (λ ts. ts.items ≡ threads_from config.now entry number config.now.strands) }
+    ensures few { IfOk result (λ ts. length ts.items ≡ config.now.strands) }
+{
+    let mut threads = Vec::with_capacity(alloc, config.strands as usize)?;
+    for i in 0..config.strands {
+        let strand = Strand::start(number + i, config.cores * config.strands, entry);
+        threads.push(Thread::new(alloc, strand, config.budget)?)?;
+    }
+    Ok(threads)
+}
+
+impl Core {
+    /// A core at its start, with all the memory of its run.
+    #[tactic(auto, unfolding(crate::specs::Start::new_core))]
+    pub fn new(alloc: Global, config: &Config, core: u8, entry: u64) -> Result<Core, AllocError>
+        requires config { IsCoreConfig config.now }
+        requires core { core < config.now.cores }
+        requires entry { entry % 4 ≡ 0 }
+        ensures { IfOk result (λ c. c ≡ new_core config.now core entry) }
+    {
+        let threads = first_threads(alloc, config, core * config.strands, entry)?;
+        Ok(Core {
+            number: core,
+            threads,
+            dcache: L1::new(alloc, 128)?,
+            icache: L1::new(alloc, 128)?,
+            time: 0,
+            ram: config.ram,
+            select: Select::new(config.strands),
+            traces: Vec::with_capacity(alloc, config.strands as usize)?,
+        })
+    }
+
+    /// One more than the index of the packet that it took last, 0 before the first.
+    pub fn time(&self) -> u32
+        ensures { result ≡ self.now.time }
+    {
+        self.time
+    }
+
+    fn asker(&self, strand: u8, room: u16) -> Asker
+        ensures value { result ≡ asker self.now strand room }
+        ensures core { result.number < 8 }
+        ensures ram { IsRam result.ram }
+    {
+        Asker {
+            number: self.number,
+            strand,
+            room,
+            time: self.time,
+            ram: self.ram,
+        }
+    }
+
+    /// A strand executes: one step of it. A strand that the core does not have waits as an ended one.
+    /// What waits changes nothing.
+    pub fn exec(&mut self, strand: u8, room: u16) -> Did
+        ensures core { self.new ≡ (exec_of self.old strand room).core }
+        ensures did { result ≡ (exec_of self.old strand room).did }
+        ensures ring { HasRing room result }
+        ensures still { WaitsStill self.old self.new result }
+    {
+        self.exec_strand(strand, room)
+    }
+
+    #[tactic(auto, unfolding(crate::specs::Steps::exec_of))]
+    fn exec_strand(&mut self, strand: u8, room: u16) -> Did
+        ensures core { self.new ≡ (exec_of self.old strand room).core }
+        ensures did { result ≡ (exec_of self.old strand room).did }
+    {
+        let asker = self.asker(strand, room);
+        let Some(thread) = self.threads.get_mut(strand as usize) else {
+            return Did::Waits(Wait::Ended);
+        };
+        exec(asker, &self.icache, &self.dcache, thread)
+    }
+
+    /// Why a strand would wait; none exactly where it would not.
+    #[tactic(auto, unfolding(crate::specs::Steps::exec_of))]
+    pub fn wait_of(&self, strand: u8, room: u16) -> Option<Wait>
+        ensures { result ≡ wait_of self.now strand room }
+    {
+        let asker = self.asker(strand, room);
+        match self.threads.get(strand as usize) {
+            None => Some(Wait::Ended),
+            Some(thread) => wait(asker, &self.icache, &self.dcache, thread),
+        }
+    }
+
+    /// Sends the oldest unsent store of a strand, where none of it is out and the ring has room: Empty
+    /// exactly where the buffer is empty, else Out exactly where the oldest store is sent, else NoRoom
+    /// exactly where the ring is full. What is not sent changes nothing.
+    pub fn drain(&mut self, strand: u8, room: u16) -> Drained
+        ensures core { self.new ≡ (drain_of self.old strand room).core }
+        ensures did { result ≡ (drain_of self.old strand room).did }
+        ensures ring { HasDrainRing room result }
+        ensures still { DrainsStill self.old self.new result }
+    {
+        self.drain_strand(strand, room)
+    }
+
+    #[tactic(auto, unfolding(crate::specs::Steps::drain_of))]
+    fn drain_strand(&mut self, strand: u8, room: u16) -> Drained
+        ensures core { self.new ≡ (drain_of self.old strand room).core }
+        ensures did { result ≡ (drain_of self.old strand room).did }
+    {
+        let asker = self.asker(strand, room);
+        let Some(thread) = self.threads.get_mut(strand as usize) else {
+            return Drained::Empty;
+        };
+        drain(asker, thread)
+    }
+
+    /// What a drain of a strand would answer.
+    #[tactic(auto, unfolding(crate::specs::Steps::drain_of))]
+    pub fn drain_of(&self, strand: u8, room: u16) -> Drained
+        ensures { result ≡ (drain_of self.now strand room).did }
+    {
+        let asker = self.asker(strand, room);
+        match self.threads.get(strand as usize) {
+            None => Drained::Empty,
+            Some(thread) => drain_answer(asker, thread),
+        }
+    }
+
+    /// The first strand of the queue that does not wait executes; its place in the queue.
+    #[tactic(auto, using(crate::proofs::Quiet::exec_quiet, t1_select::proofs::Places::first_ready_is, t1_select::proofs::Places::first_ready_none))]
+    fn act_first(&mut self, room: u16) -> Option<Acted>
+        ensures some { IfSome result (λ a. ActedAt self.old room a.place a.did self.new) }
+        ensures none { IfNone result ((next_place self.old room ≡ None) × (self.new ≡ self.old)) }
+    {
+        let count = self.select.len();
+        for place in 0..count {
+            let strand = self.select.at(place);
+            match self.exec(strand, room) {
+                Did::Waits(_) => {}
+                Did::Moved => {
+                    let did = Did::Moved;
+                    return Some(Acted { place, did });
+                }
+                Did::Sent { dest, request } => {
+                    let did = Did::Sent { dest, request };
+                    return Some(Acted { place, did });
+                }
+            }
+        }
+        None
+    }
+
+    /// The least recently picked of the strands that would not wait executes; none exactly where each
+    /// would wait, and then nothing changes.
+    pub fn turn(&mut self, room: u16) -> Option<Did>
+        ensures core { self.new ≡ (turn_of self.old room).core }
+        ensures did { result ≡ (turn_of self.old room).did }
+        ensures ring { IfSome result (λ d. HasRing room d) }
+        ensures still { IfNone result (self.new ≡ self.old) }
+    {
+        let acted = self.act_first(room)?;
+        self.select.move_last(acted.place);
+        Some(acted.did)
+    }
+
+    fn ready_bit(&self, strand: u8, room: u16) -> u8
+        ensures value { result ≡ ready_bit self.now room strand }
+        ensures bit { result ≤ 1 }
+    {
+        match self.wait_of(strand, room) {
+            None => 1,
+            Some(_) => 0,
+        }
+    }
+
+    /// The strands that would not wait, a bit for each.
+    #[tactic(auto, unfolding(crate::specs::Turns::ready_word))]
+    pub fn ready(&self, room: u16) -> u8
+        ensures { result ≡ ready_word self.now room }
+    {
+        self.ready_bit(0, room)
+            + 2 * self.ready_bit(1, room)
+            + 4 * self.ready_bit(2, room)
+            + 8 * self.ready_bit(3, room)
+    }
+
+    fn kill(&mut self, kill: Kill)
+        ensures { self.new ≡ killed_by self.old kill }
+    {
+        if kill.core == self.number {
+            match kill.cache {
+                Cache::Dcache => empty_way(&mut self.dcache, kill.set, kill.way),
+                Cache::Icache => empty_way(&mut self.icache, kill.set, kill.way),
+            }
+        }
+    }
+
+    #[tactic(auto, unfolding(crate::specs::Takes::killed))]
+    fn kill_all(&mut self, kills: &[Kill])
+        ensures { self.new ≡ killed self.old kills.now }
+    {
+        for kill in kills {
+            self.kill(*kill);
+        }
+    }
+
+    fn answer(&mut self, index: u32, reply: &Reply)
+        ensures { self.new ≡ answered self.old index (Some reply.now) }
+    {
+        let ram = self.ram;
+        if let Some(thread) = self.threads.get_mut(reply.strand as usize) {
+            answer(
+                ram,
+                index,
+                reply,
+                thread,
+                &mut self.dcache,
+                &mut self.icache,
+            );
+        }
+    }
+
+    /// Takes a packet, whatever packet comes: one that is old, or of index 4294967295, changes nothing.
+    /// Of any other the kills empty their ways, then the reply is applied where it answers a request
+    /// that is out, and then the time is one past the index. What does not fit is passed over.
+    #[tactic(auto, unfolding(crate::specs::Takes::take_of))]
+    pub fn take(&mut self, packet: &Packet)
+        ensures { self.new ≡ take_of self.old packet.now }
+    {
+        if packet.index < self.time || packet.index == u32::MAX {
+            return;
+        }
+        self.kill_all(packet.kills.as_slice());
+        if let Some(reply) = &packet.reply {
+            self.answer(packet.index, reply);
+        }
+        self.time = packet.index + 1;
+    }
+
+    /// Whether all strands have ended, with empty buffers.
+    pub fn finished(&self) -> bool
+        ensures { result ≡ finished_of self.now }
+    {
+        for thread in &self.threads {
+            if !thread.is_over() {
+                return false;
+            }
+        }
+        true
+    }
+
+    /// The traces of its strands.
+    pub fn into_traces(self) -> Vec<Trace>
+        ensures { result.items ≡ traces_of self }
+    {
+        let Core {
+            number: _,
+            threads,
+            dcache: _,
+            icache: _,
+            time: _,
+            ram: _,
+            select: _,
+            mut traces,
+        } = self;
+        for thread in threads {
+            traces.push_reserved(thread.into_trace());
+        }
+        traces
+    }
+}
+
+/// Empties a way of a set, where the cache has it.
+fn empty_way<const WAYS: usize, const LINE: usize>(cache: &mut L1<WAYS, LINE>, set: u8, way: u8)
+    ensures { cache.new ≡ emptied_in cache.old set way }
+{
+    if (set as usize) < cache.sets() && (way as usize) < WAYS {
+        cache.invalidate(set, way);
+    }
+}
