@@ -2,4 +2,5 @@ pub mod Stopped
 pub mod Acted
 pub mod FlatSound
 pub mod Reports
+pub mod Limits
 pub mod Verdicts

@@ -1,5 +1,5 @@
 pub mod Flat
-pub mod FirstForm
+pub mod Words
 pub mod Outcome
 pub mod Codes
 pub mod Printed

@@ -1,6 +1,11 @@
--- What comes of an input: its refusal, a point that is not built, or the report of its run.
-use Rattle.std.specs.Prelude.{ℕ, Bool, true, false, List, [], ◌∷◌, ◌++◌, codes, Some}
+-- What comes of an input under a machine of one strand: its refusal, a point that is not built, or the report of its run.
+use Rattle.std.specs.Prelude.{ℕ, Bool, true, false, nat_lt, List, [], ◌∷◌, ◌++◌, length, codes, Some, Result, Ok, Err}
 use Rattle.t1_state.specs.Registers.{start_of}
+use Rattle.t1_elf.specs.declared.error.ElfError.{ElfError}
+use Rattle.t1_elf.specs.declared.error.ElfError.TheVariants as elf
+use Rattle.t1_elf.specs.declared.object.Object.{Object}
+use Rattle.t1_elf.specs.Images.{image_of}
+use Rattle.t1_elf.specs.Parsed.{parsed}
 use Rattle.t1_event.specs.declared.report.Config.{Config}
 use Rattle.t1_event.specs.declared.report.Report.{Report}
 use Rattle.t1_event.specs.declared.trace.Trace.{Trace}
@@ -13,26 +18,17 @@ use Rattle.t1_cli.specs.declared.flat.FlatEnd.TheVariants.{On, Unbuilt, Over}
 use Rattle.t1_cli.specs.declared.status.Status.{Status}
 use Rattle.t1_cli.specs.declared.status.Status.TheVariants as status
 use Rattle.t1_cli.specs.declared.outcome.Outcome.{Outcome}
-use Rattle.t1_cli.specs.declared.outcome.Outcome.TheVariants.{Misformed, NotBuilt, Ran}
+use Rattle.t1_cli.specs.declared.outcome.Outcome.TheVariants.{TooLong, Misformed, NotBuilt, Ran}
 use Rattle.t1_cli.specs.Flat.{Flat, flat_run}
-use Rattle.t1_cli.specs.FirstForm.{is_first_form, entry_of, first_image, first_ram}
-
--- the units that a strand may make
-abbrev pub first_budget : ℕ
-first_budget = 10
-
--- the machine of a first run
-abbrev pub first_config : Config
-first_config = record { cores = 1; strands = 1; ram = first_ram; sets = 1024; budget = first_budget }
 
 -- the trace of a strand that has ended
 abbrev pub trace_of : Flat → Ending → Trace
 trace_of f ending = record { items = f.items; units = f.strand.units; pc = f.strand.pc; ending = Some ending }
 
 -- the report of a run that has ended, whose memory order is the program order of its one strand
-abbrev pub report_of : ℕ → List ℕ → Flat → Ending → Report
-report_of entry image f ending = record {
-  config = first_config;
+abbrev pub report_of : Config → ℕ → List ℕ → Flat → Ending → Report
+report_of config entry image f ending = record {
+  config = config;
   image = record { entry = entry; ram = image };
   traces = trace_of f ending ∷ [];
   log = [];
@@ -40,23 +36,35 @@ report_of entry image f ending = record {
   console = [];
 }
 
-abbrev pub outcome_at : ℕ → List ℕ → Flat → FlatEnd → Outcome
-outcome_at entry image f (Over ending) = Ran ending (report_of entry image f ending)
-outcome_at entry image f Unbuilt = NotBuilt f.strand.pc
-outcome_at entry image f On = NotBuilt f.strand.pc
+abbrev pub outcome_at : Config → ℕ → List ℕ → Flat → FlatEnd → Outcome
+outcome_at config entry image f (Over ending) = Ran ending (report_of config entry image f ending)
+outcome_at config entry image f Unbuilt = NotBuilt f.strand.pc
+outcome_at config entry image f On = NotBuilt f.strand.pc
 
 -- the run of strand 0 of 1 from an image
-unfoldable pub run_of : ℕ → List ℕ → Outcome
-run_of entry image =
-    let f = flat_run (start_of 0 1 entry) image first_budget in outcome_at entry image f f.end
+unfoldable pub run_of : Config → ℕ → List ℕ → Outcome
+run_of config entry image =
+    let f = flat_run (start_of 0 1 entry) image config.budget in outcome_at config entry image f f.end
 
-abbrev pub outcome_of_form : List ℕ → Bool → Outcome
-outcome_of_form input false = Misformed
-outcome_of_form input true = run_of (entry_of input) (first_image input)
+-- the image of a file's object
+abbrev pub image_in : Config → Object → List ℕ
+image_in config object = (image_of object config.ram).ram
+
+abbrev pub outcome_of_file : Config → Result Object ElfError → Outcome
+outcome_of_file config (Err error) = Misformed error
+outcome_of_file config (Ok object) = run_of config object.entry (image_in config object)
+
+abbrev pub outcome_of_size : Config → List ℕ → Bool → Outcome
+outcome_of_size config input true = TooLong
+outcome_of_size config input false = outcome_of_file config (parsed input config.ram)
+
+-- the most bytes of an input
+abbrev pub most_input : ℕ
+most_input = 67108864
 
 -- what comes of an input
-unfoldable pub outcome_of : List ℕ → Outcome
-outcome_of input = outcome_of_form input (is_first_form input)
+unfoldable pub outcome_of : Config → List ℕ → Outcome
+outcome_of config input = outcome_of_size config input (nat_lt most_input (length input))
 
 abbrev pub status_of_ending : Ending → Status
 status_of_ending ending.Halted = status.Good
@@ -65,14 +73,34 @@ status_of_ending (ending.Fault number) = status.Fault
 
 -- the status of an outcome
 abbrev pub status_of : Outcome → Status
-status_of Misformed = status.Refused
+status_of TooLong = status.Refused
+status_of (Misformed error) = status.Refused
 status_of (NotBuilt pc) = status.Refused
 status_of (Ran ending report) = status_of_ending ending
+
+-- the name of a kind of fault of a file
+abbrev pub name_of : ElfError → List ℕ
+name_of elf.TooShort = codes "TooShort"
+name_of elf.NotElf = codes "NotElf"
+name_of elf.WrongClass = codes "WrongClass"
+name_of elf.WrongOrder = codes "WrongOrder"
+name_of elf.WrongMachine = codes "WrongMachine"
+name_of elf.WrongType = codes "WrongType"
+name_of elf.BadHeader = codes "BadHeader"
+name_of elf.Dynamic = codes "Dynamic"
+name_of elf.NoSegment = codes "NoSegment"
+name_of elf.SegmentOutside = codes "SegmentOutside"
+name_of elf.EntryOutside = codes "EntryOutside"
+name_of elf.EntryMisaligned = codes "EntryMisaligned"
+name_of elf.OutOfMemory = codes "OutOfMemory"
 
 -- the PC of the first strand
 abbrev pub pc_of : List Trace → ℕ
 pc_of [] = 0
 pc_of (trace ∷ traces) = trace.pc
+
+abbrev pub elf_line : ElfError → List ℕ
+elf_line error = codes "t1sim: elf " ++ (name_of error ++ codes "\n")
 
 abbrev pub not_built_line : ℕ → List ℕ
 not_built_line pc = codes "t1sim: not built at " ++ (hex_of 16 pc ++ codes "\n")

@@ -1,27 +1,29 @@
 -- What the serial command promises.
-use Rattle.std.specs.Prelude.{ℕ, ◌≡◌, ◌⊎◌, List, [], ◌∷◌, ◌++◌, Option, Some, None, ⊤, length, slice_get, IsSomeAnd}
+use Rattle.std.specs.Prelude.{ℕ, ◌≡◌, ◌⊎◌, List, [], ◌∷◌, ◌++◌, Option, Some, None, ⊤, length}
+use Rattle.std.specs.Io.KnownBytes.{IsAtEnd}
 use Rattle.t1_io.specs.Causes.{Rose}
 use Rattle.t1_io.specs.Held.{Grew, GrewPart}
-use Rattle.t1_event.specs.declared.trace.Ending.{Ending}
+use Rattle.t1_elf.specs.Saved.{saved}
+use Rattle.t1_event.specs.declared.report.Config.{Config}
 use Rattle.t1_event.specs.declared.report.Report.{Report}
+use Rattle.t1_event.specs.declared.trace.Ending.{Ending}
+use Rattle.t1_gen.specs.Guests.{generated}
 use Rattle.t1_log.specs.FirstLog.{first_log_of}
+use Rattle.t1_cli.specs.declared.command.Task.{Task}
+use Rattle.t1_cli.specs.declared.command.Task.TheVariants as task
 use Rattle.t1_cli.specs.declared.outcome.Outcome.{Outcome}
-use Rattle.t1_cli.specs.declared.outcome.Outcome.TheVariants.{Misformed, NotBuilt, Ran}
+use Rattle.t1_cli.specs.declared.outcome.Outcome.TheVariants.{TooLong, Misformed, NotBuilt, Ran}
 use Rattle.t1_cli.specs.declared.status.Status.{Status}
 use Rattle.t1_cli.specs.declared.status.Status.TheVariants as status
 use Rattle.t1_cli.specs.Outcome.{outcome_of, status_of, status_of_ending}
 use Rattle.t1_cli.specs.Printed.{IsReportOfInput}
-
--- there is one word, with these bytes
-abbrev pub IsOneWord : {A : Type 0} → (A → List ℕ) → List ℕ → List A → Type 0
-IsOneWord bytes word words = (length words ≡ 1) × IsSomeAnd (slice_get words 0) (λ w. bytes w ≡ word)
 
 -- the input is what the source had left, where it tells it
 abbrev pub WasLeft : Option (List ℕ) → List ℕ → Type 0
 WasLeft None input = ⊤
 WasLeft (Some left) input = left ≡ input
 
--- a status of a run whose whole text was written
+-- a status of a command whose whole text was written
 abbrev pub HasText : Status → Type 0
 HasText status.Good = ⊤
 HasText status.Fault = ⊤
@@ -31,6 +33,7 @@ HasText status.Refused = ⊥
 HasText status.ReadFault = ⊥
 HasText status.WriteFault = ⊥
 HasText status.OutOfMemory = ⊥
+HasText status.NotInOrder = ⊥
 
 -- a status of a command that wrote nothing
 abbrev pub HasNoText : Status → Type 0
@@ -42,38 +45,42 @@ HasNoText status.Good = ⊥
 HasNoText status.Fault = ⊥
 HasNoText status.Spent = ⊥
 HasNoText status.WriteFault = ⊥
+HasNoText status.NotInOrder = ⊥
+
+-- ---- the command run
 
 -- the input ran to an ending of this status, and what was written grew by exactly its first log
-pub record PrintsRun (left old new : Option (List ℕ)) (result : Status) : Type 0 where
+pub record PrintsRun (config : Config) (left old new : Option (List ℕ)) (result : Status) : Type 0 where
   pub input : List ℕ
   pub read : WasLeft left input
   pub ending : Ending
   pub report : Report
-  pub outcome : outcome_of input ≡ Ran ending report
-  pub is_report : IsReportOfInput input ending report
+  pub outcome : outcome_of config input ≡ Ran ending report
+  pub is_report : IsReportOfInput config input ending report
   pub status_is : status_of_ending ending ≡ result
   pub printed : Grew old new (first_log_of report)
 
 -- the input ran, and what was written grew by a front of its first log
-pub record PrintsFront (left old new : Option (List ℕ)) : Type 0 where
+pub record PrintsFront (config : Config) (left old new : Option (List ℕ)) : Type 0 where
   pub input : List ℕ
   pub read : WasLeft left input
   pub ending : Ending
   pub report : Report
-  pub outcome : outcome_of input ≡ Ran ending report
-  pub is_report : IsReportOfInput input ending report
+  pub outcome : outcome_of config input ≡ Ran ending report
+  pub is_report : IsReportOfInput config input ending report
   pub printed : GrewPart old new (first_log_of report)
 
--- the input has not the first form, or its run met a point that is not built
+-- the input is too long, or no program that can be loaded, or its run met a point that is not built
 abbrev pub IsRefused : Outcome → Type 0
-IsRefused Misformed = ⊤
+IsRefused TooLong = ⊤
+IsRefused (Misformed error) = ⊤
 IsRefused (NotBuilt pc) = ⊤
 IsRefused (Ran ending report) = ⊥
 
-pub record Refuses (left : Option (List ℕ)) : Type 0 where
+pub record Refuses (config : Config) (left : Option (List ℕ)) : Type 0 where
   pub input : List ℕ
   pub read : WasLeft left input
-  pub refused : IsRefused (outcome_of input)
+  pub refused : IsRefused (outcome_of config input)
 
 -- a command answers the status that is expected, but where a device failed or memory was wanting
 abbrev pub Answers : Status → Status → Type 0
@@ -85,11 +92,48 @@ Answers status.Usage expected = expected ≡ status.Usage
 Answers status.Refused expected = expected ≡ status.Refused
 Answers status.Fault expected = expected ≡ status.Fault
 Answers status.Spent expected = expected ≡ status.Spent
+Answers status.NotInOrder expected = expected ≡ status.NotInOrder
 
 -- where the source tells its bytes, the status is that of what comes of them
-abbrev pub AnswersInput : Option (List ℕ) → Status → Type 0
-AnswersInput None result = ⊤
-AnswersInput (Some left) result = Answers result (status_of (outcome_of left))
+abbrev pub AnswersInput : Config → Option (List ℕ) → Status → Type 0
+AnswersInput config None result = ⊤
+AnswersInput config (Some left) result = Answers result (status_of (outcome_of config left))
+
+-- what a status of the command run says of what was read and of what was written
+pub record AnswersRun (config : Config) (left left' old new : Option (List ℕ)) (result : Status) : Type 0 where
+  pub exact : AnswersInput config left result
+  pub refused : result ≡ status.Refused → Refuses config left
+  pub ran : HasText result → PrintsRun config left old new result
+  pub front : result ≡ status.WriteFault → PrintsFront config left old new
+  pub end : HasText result → IsAtEnd left'
+
+-- ---- the command gen
+
+-- the saved guest was written, or a front of it, or memory was wanting
+abbrev pub AnswersGen : ℕ → ℕ → Option (List ℕ) → Option (List ℕ) → Status → Type 0
+AnswersGen seed size old new status.Good = Grew old new (saved (generated seed size))
+AnswersGen seed size old new status.WriteFault = GrewPart old new (saved (generated seed size))
+AnswersGen seed size old new status.OutOfMemory = ⊤
+AnswersGen seed size old new status.Usage = ⊥
+AnswersGen seed size old new status.Refused = ⊥
+AnswersGen seed size old new status.Fault = ⊥
+AnswersGen seed size old new status.Spent = ⊥
+AnswersGen seed size old new status.ReadFault = ⊥
+AnswersGen seed size old new status.NotInOrder = ⊥
+
+-- ---- all commands
+
+-- what a status says, by what the words ask for
+abbrev pub AnswersTask : Option Task → Option (List ℕ) → Option (List ℕ) → Option (List ℕ) → Option (List ℕ) → Status → Type 0
+AnswersTask None left left' old new result = result ≡ status.Usage
+AnswersTask (Some (task.Run config)) left left' old new result = AnswersRun config left left' old new result
+AnswersTask (Some (task.Gen seed size)) left left' old new result = AnswersGen seed size old new result
+
+-- the words ask for a guest, which reads no input
+abbrev pub ReadsNothing : Option Task → Type 0
+ReadsNothing None = ⊤
+ReadsNothing (Some (task.Run config)) = ⊥
+ReadsNothing (Some (task.Gen seed size)) = ⊤
 
 -- a front of a line was written, and the whole line where the count of faults did not rise
 pub record TellsLine (faults faults' : ℕ) (old new : Option (List ℕ)) (line : List ℕ) : Type 0 where

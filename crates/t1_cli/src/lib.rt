@@ -5,7 +5,7 @@
 //! `run` is the flat engine: one strand on one flat memory, in program order.
 #![tactic(auto)]
 
-pub mod first_form;
+pub mod command;
 pub mod flat;
 pub mod order;
 pub mod outcome;
@@ -17,6 +17,9 @@ pub mod status;
 mod tests;
 pub mod unit;
 pub mod verdict;
+mod words;
 
+pub use command::Command;
 pub use serial::t1_serial;
 pub use status::Status;
+pub use words::read_words;

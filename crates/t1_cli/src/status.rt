@@ -3,11 +3,12 @@
 /// How a command ended.
 #[derive(Clone, Copy, Debug, PartialEq, Eq)]
 pub enum Status {
-    /// The text was written whole, and the strand halted.
+    /// The text was written whole, and a strand that ran halted.
     Good,
-    /// The words are not those of a command.
+    /// The words are not in the form of a command that is served.
     Usage,
-    /// The input is not of the form, or its run met a point that is not built.
+    /// The input is too long or no program that can be loaded, or its run met a point that is not
+    /// built.
     Refused,
     /// The text was written whole, and the strand ended by a trap at trap level 6.
     Fault,
@@ -19,6 +20,8 @@ pub enum Status {
     WriteFault,
     /// Memory was wanting; the output is unchanged.
     OutOfMemory,
+    /// A log whose memory order does not obey total store order.
+    NotInOrder,
 }
 
 impl Status {
@@ -38,6 +41,7 @@ impl Status {
             Status::ReadFault => 5,
             Status::WriteFault => 6,
             Status::OutOfMemory => 7,
+            Status::NotInOrder => 8,
         }
     }
 }

@@ -1,11 +1,11 @@
 //! The serial command over devices in memory, and longer guests on the flat engine.
-use crate::first_form::{FIRST_RAM, blank};
 use crate::flat::FlatEnd;
 use crate::run::run_flat;
 use crate::serial::t1_serial;
+use crate::{Command, read_words};
 use std::alloc::{AllocError, Global};
 use std::test::Fail;
-use t1_event::Ending;
+use t1_event::{Config, Ending};
 use t1_io::{MemSink, MemSource};
 use t1_num::{get_be, put_be};
 
@@ -15,6 +15,22 @@ const SUM: &[u32] = &[0x82102002, 0x82006003, 0xc2702200, 0xc4582200, 0xb5802000
 /// %g1 200 hex, %g2 0, %g3 7; `casx [%g1], %g2, %g3`, which writes, and again, which does not; halt.
 const TWO_COMPARES: &[u32] = &[
     0x82102200, 0x84102000, 0x86102007, 0xc7f05002, 0xc7f05002, 0xb5802000,
+];
+
+/// The bytes of a small RAM.
+const RAM: usize = 65_536;
+
+/// A run of one strand on a small RAM, for at most 10 units.
+const RUN: &[&str] = &[
+    "run",
+    "--cores",
+    "1",
+    "--strands",
+    "1",
+    "--ram",
+    "65536",
+    "--budget",
+    "10",
 ];
 
 const SUM_LOG: &str = "t1log 0
@@ -58,6 +74,15 @@ fn file_of(alloc: Global, words: &[u32], at: u64, entry: u64) -> Result<Vec<u8>,
     Ok(file)
 }
 
+/// Words of a command line.
+fn strings(alloc: Global, words: &[&str]) -> Result<Vec<String>, AllocError> {
+    let mut list = Vec::new(alloc);
+    for word in words {
+        list.push(String::from_str(alloc, word)?)?;
+    }
+    Ok(list)
+}
+
 /// What came of a command.
 #[derive(Drop)]
 struct Came {
@@ -83,10 +108,7 @@ const CALM: Plan = Plan {
 };
 
 fn serve(alloc: Global, words: &[&str], file: Vec<u8>, plan: Plan) -> Result<Came, AllocError> {
-    let mut list = Vec::new(alloc);
-    for word in words {
-        list.push(String::from_str(alloc, word)?)?;
-    }
+    let list = strings(alloc, words)?;
     let piece = plan.piece.max(1);
     let mut input = MemSource::new(file, 16, Vec::from_slice(alloc, &[plan.read])?);
     let mut out = MemSink::new(alloc, 8192, piece, Vec::from_slice(alloc, &[plan.write])?)?;
@@ -166,11 +188,11 @@ fn guests_end_with_their_status_and_lines(rt: HostRuntime) -> Result<(), Fail> {
             "e 0 halted 1 0000000000010000",
             "",
         ),
-        (&[0xb5802000], 0xfffd, 2, "", "t1sim: elf OneSegmentOnly\n"),
+        (&[0xb5802000], 0xfffd, 2, "", "t1sim: elf SegmentOutside\n"),
     ];
     for (words, at, status, line, told) in table {
         let file = file_of(rt.alloc(), words, at, at / 4 * 4)?;
-        let came = serve(rt.alloc(), &["run"], file, CALM)?;
+        let came = serve(rt.alloc(), RUN, file, CALM)?;
         assert_eq!(rt; came.status, status, "{line} {told}");
         assert_eq!(rt; came.err.as_slice(), told.as_bytes());
         if status == 2 {
@@ -184,58 +206,72 @@ fn guests_end_with_their_status_and_lines(rt: HostRuntime) -> Result<(), Fail> {
 
 #[test]
 fn each_broken_field_of_the_file_is_refused(rt: HostRuntime) -> Result<(), Fail> {
-    // The place of a byte of the file, and a value that breaks its field.
-    let table: [(usize, u8); 16] = [
-        (0, 0x7e),
-        (3, 0x47),
-        (4, 1),
-        (5, 1),
-        (17, 3),
-        (19, 2),
-        (29, 1),
-        (31, 2),
-        (39, 56),
-        (55, 55),
-        (57, 2),
-        (67, 2),
-        (79, 121),
-        (85, 1),
-        (103, 21),
-        (111, 19),
+    // The place of a byte of the file, a value that breaks its field, and the line on err.
+    let table: [(usize, u8, &str); 11] = [
+        (3, 0x47, "t1sim: elf NotElf\n"),
+        (4, 1, "t1sim: elf WrongClass\n"),
+        (5, 1, "t1sim: elf WrongOrder\n"),
+        (19, 2, "t1sim: elf WrongMachine\n"),
+        (17, 3, "t1sim: elf WrongType\n"),
+        (55, 55, "t1sim: elf BadHeader\n"),
+        (67, 3, "t1sim: elf Dynamic\n"),
+        (57, 0, "t1sim: elf NoSegment\n"),
+        (85, 1, "t1sim: elf SegmentOutside\n"),
+        (29, 1, "t1sim: elf EntryOutside\n"),
+        (31, 2, "t1sim: elf EntryMisaligned\n"),
     ];
-    for (place, value) in table {
+    for (place, value, told) in table {
         let mut file = file_of(rt.alloc(), SUM, 0x100, 0x100)?;
         if let Some(byte) = file.get_mut(place) {
             *byte = value;
         }
-        let came = serve(rt.alloc(), &["run"], file, CALM)?;
+        let came = serve(rt.alloc(), RUN, file, CALM)?;
         assert_eq!(rt; came.status, 2, "byte {place}");
-        assert_eq!(rt;
-            came.err.as_slice(),
-            b"t1sim: elf OneSegmentOnly\n".as_slice()
-        );
+        assert_eq!(rt; came.err.as_slice(), told.as_bytes());
         assert_eq!(rt; came.out.len(), 0);
     }
-    // Files that are too short, and one whose segment has no bytes.
-    let whole = file_of(rt.alloc(), SUM, 0x100, 0x100)?;
-    for length in [0, 119] {
-        let front = whole.as_slice().split_at(length.min(whole.len())).0;
-        let came = serve(rt.alloc(), &["run"], front.to_vec(rt.alloc())?, CALM)?;
-        assert_eq!(rt; came.status, 2, "{length} bytes");
-        assert_eq!(rt;
-            came.err.as_slice(),
-            b"t1sim: elf OneSegmentOnly\n".as_slice()
-        );
-    }
-    let empty = file_of(rt.alloc(), &[], 0x100, 0x100)?;
-    let came = serve(rt.alloc(), &["run"], empty, CALM)?;
-    assert_eq!(rt; came.status, 2, "a segment of no bytes");
+    let mut front = file_of(rt.alloc(), SUM, 0x100, 0x100)?;
+    front.truncate(63);
+    let came = serve(rt.alloc(), RUN, front, CALM)?;
+    assert_eq!(rt; came.status, 2);
+    assert_eq!(rt; came.err.as_slice(), b"t1sim: elf TooShort\n".as_slice());
     Ok(())
 }
 
 #[test]
 fn other_words_are_a_usage_fault(rt: HostRuntime) -> Result<(), Fail> {
-    let table: [&[&str]; 4] = [&[], &["frob"], &["run", "run"], &["Run"]];
+    let table: [&[&str]; 14] = [
+        &[],
+        &["frob"],
+        &["Run"],
+        &["run", "--cores", "9"],
+        &["run", "--cores", "1", "--cores", "1"],
+        &[
+            "run",
+            "--cores",
+            "1",
+            "--strands",
+            "2",
+            "--budget",
+            "1000000",
+        ],
+        &["run", "--cores", "1", "--strands", "1", "--ram"],
+        &["run", "--cores", "1", "--strands", "1", "--ram", "65537"],
+        &["run", "--cores", "1", "--strands", "1", "--sets", "3"],
+        &[
+            "run",
+            "--cores",
+            "1",
+            "--strands",
+            "1",
+            "--budget",
+            "1000001",
+        ],
+        &["run", "--cores", "1", "--strands", "1", "--size", "1"],
+        &["run", "--cores", "1", "--strands", "1", "--brief"],
+        &["gen", "--seed", "1"],
+        &["gen", "--seed", "1", "--size", "4001"],
+    ];
     for words in table {
         let file = file_of(rt.alloc(), SUM, 0x100, 0x100)?;
         let came = serve(rt.alloc(), words, file, CALM)?;
@@ -243,6 +279,77 @@ fn other_words_are_a_usage_fault(rt: HostRuntime) -> Result<(), Fail> {
         assert_eq!(rt; came.err.as_slice(), b"t1sim: usage\n".as_slice());
         assert_eq!(rt; came.out.len(), 0);
     }
+    let good = [
+        "run",
+        "--budget",
+        "1000000",
+        "--strands",
+        "01",
+        "--cores",
+        "1",
+    ];
+    let file = file_of(rt.alloc(), SUM, 0x100, 0x100)?;
+    assert_eq!(rt; serve(rt.alloc(), &good, file, CALM)?.status, 0);
+    Ok(())
+}
+
+#[test]
+fn words_ask_for_commands(rt: HostRuntime) -> Result<(), Fail> {
+    let whole = Config {
+        cores: 8,
+        strands: 4,
+        ram: 16_777_216,
+        sets: 1024,
+        budget: 10_000,
+    };
+    let run = |config: Config, seed: Option<u64>, brief: bool| -> Option<Command> {
+        Some(Command::Run {
+            config,
+            seed,
+            brief,
+        })
+    };
+    let table: [(&[&str], Option<Command>); 9] = [
+        (&["run"], run(whole, None, false)),
+        (
+            &["run", "--brief", "--sets", "1"],
+            run(Config { sets: 1, ..whole }, None, true),
+        ),
+        (
+            &["run", "--seed", "18446744073709551615"],
+            run(whole, Some(u64::MAX), false),
+        ),
+        (&["run", "--seed", "18446744073709551616"], None),
+        (&["run", "--seed", "000000000000000000001"], None),
+        (&["live"], Some(Command::Live { config: whole })),
+        (&["live", "--brief"], None),
+        (&["check"], Some(Command::Check)),
+        (
+            &["gen", "--size", "4000", "--seed", "0"],
+            Some(Command::Gen {
+                seed: 0,
+                size: 4000,
+            }),
+        ),
+    ];
+    for (words, want) in table {
+        let words = strings(rt.alloc(), words)?;
+        assert_eq!(rt; read_words(words.as_slice()), want);
+    }
+    Ok(())
+}
+
+#[test]
+fn a_guest_is_written_and_nothing_is_read(rt: HostRuntime) -> Result<(), Fail> {
+    // The first read would fail.
+    let plan = Plan { read: 1, ..CALM };
+    let gen_words = ["gen", "--seed", "0", "--size", "2"];
+    let came = serve(rt.alloc(), &gen_words, Vec::new(rt.alloc()), plan)?;
+    assert_eq!(rt; came.status, 0);
+    assert_eq!(rt; came.out.len(), 136);
+    let came = serve(rt.alloc(), RUN, came.out, CALM)?;
+    assert_eq!(rt; came.status, 0);
+    assert!(rt; has_line(came.out.as_slice(), "i 0 1 fetch 0000001004 4 8143e002 -"));
     Ok(())
 }
 
@@ -266,7 +373,7 @@ fn each_call_of_a_device_may_fail(rt: HostRuntime) -> Result<(), Fail> {
     // The source, of 140 bytes in pieces of 16, is called nine times, and once more at its end.
     for call in 1..=10 {
         let file = file_of(rt.alloc(), SUM, 0x100, 0x100)?;
-        let came = serve(rt.alloc(), &["run"], file, Plan { read: call, ..CALM })?;
+        let came = serve(rt.alloc(), RUN, file, Plan { read: call, ..CALM })?;
         assert_eq!(rt; came.status, 5, "read {call}");
         assert_eq!(rt; came.err.as_slice(), b"t1sim: read fault\n".as_slice());
         assert_eq!(rt; came.out.len(), 0);
@@ -276,7 +383,7 @@ fn each_call_of_a_device_may_fail(rt: HostRuntime) -> Result<(), Fail> {
         let file = file_of(rt.alloc(), SUM, 0x100, 0x100)?;
         let came = serve(
             rt.alloc(),
-            &["run"],
+            RUN,
             file,
             Plan {
                 write: call,
@@ -294,7 +401,7 @@ fn each_call_of_a_device_may_fail(rt: HostRuntime) -> Result<(), Fail> {
     let file = file_of(rt.alloc(), SUM, 0x100, 0x100)?;
     let came = serve(
         rt.alloc(),
-        &["run"],
+        RUN,
         file,
         Plan {
             write: 30,
@@ -305,14 +412,15 @@ fn each_call_of_a_device_may_fail(rt: HostRuntime) -> Result<(), Fail> {
     assert_eq!(rt; came.status, 6);
     assert_eq!(rt; came.out.as_slice(), text.split_at(29.min(text.len())).0);
     // A failure of err changes no status, and all calls may go well.
-    for (words, status) in [("run", 0), ("frob", 1)] {
+    let table: [(&[&str], u8); 2] = [(RUN, 0), (&["frob"], 1)];
+    for (words, status) in table {
         let file = file_of(rt.alloc(), SUM, 0x100, 0x100)?;
-        let came = serve(rt.alloc(), &[words], file, Plan { tell: 1, ..CALM })?;
+        let came = serve(rt.alloc(), words, file, Plan { tell: 1, ..CALM })?;
         assert_eq!(rt; came.status, status);
         assert_eq!(rt; came.err.len(), 0);
     }
     let file = file_of(rt.alloc(), SUM, 0x100, 0x100)?;
-    let came = serve(rt.alloc(), &["run"], file, Plan { piece: 1, ..CALM })?;
+    let came = serve(rt.alloc(), RUN, file, Plan { piece: 1, ..CALM })?;
     assert_eq!(rt; came.status, 0);
     assert_eq!(rt; came.out.as_slice(), text);
     Ok(())
@@ -349,7 +457,7 @@ const INTERRUPT: &[u32] = &[0xab802010, 0x82102005, 0xc2702808, 0x83f00000];
 fn put_words(memory: &mut [u8], at: usize, words: &[u32]) {
     let mut place = at;
     for word in words {
-        if place < 60_000 && memory.len() == FIRST_RAM {
+        if place < 60_000 && memory.len() == RAM {
             put_be(memory, place, 4, *word as u64);
             place += 4;
         }
@@ -358,29 +466,29 @@ fn put_words(memory: &mut [u8], at: usize, words: &[u32]) {
 
 #[test]
 fn windows_spill_and_fill(rt: HostRuntime) -> Result<(), Fail> {
-    let mut memory = blank(rt.alloc(), FIRST_RAM)?;
+    let mut memory = Vec::from_elem(rt.alloc(), 0u8, RAM)?;
     put_words(&mut memory, 0x100, TEN_WINDOWS);
     put_words(&mut memory, 0x1000, SPILL);
     put_words(&mut memory, 0x1800, FILL);
-    assert_eq!(rt; memory.len(), FIRST_RAM);
+    assert_eq!(rt; memory.len(), RAM);
     let run = run_flat(rt.alloc(), &mut memory, 0x100, 10_000)?;
     assert_eq!(rt; run.end, FlatEnd::Over(Ending::Halted));
     assert_eq!(rt; run.strand.tl, 0);
-    assert_eq!(rt; memory.len(), FIRST_RAM);
+    assert_eq!(rt; memory.len(), RAM);
     assert_eq!(rt; get_be(&memory, 0x800, 8), 77);
     Ok(())
 }
 
 #[test]
 fn an_interrupt_is_taken_and_returned_from(rt: HostRuntime) -> Result<(), Fail> {
-    let mut memory = blank(rt.alloc(), FIRST_RAM)?;
+    let mut memory = Vec::from_elem(rt.alloc(), 0u8, RAM)?;
     put_words(&mut memory, 0x100, ASK);
     put_words(&mut memory, 0x880, INTERRUPT);
-    assert_eq!(rt; memory.len(), FIRST_RAM);
+    assert_eq!(rt; memory.len(), RAM);
     let run = run_flat(rt.alloc(), &mut memory, 0x100, 100)?;
     assert_eq!(rt; run.end, FlatEnd::Over(Ending::Halted));
     assert_eq!(rt; run.strand.tl, 0);
-    assert_eq!(rt; memory.len(), FIRST_RAM);
+    assert_eq!(rt; memory.len(), RAM);
     assert_eq!(rt; get_be(&memory, 0x800, 8), 77);
     assert_eq!(rt; get_be(&memory, 0x808, 8), 5);
     Ok(())

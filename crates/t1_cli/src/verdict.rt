@@ -1,12 +1,16 @@
 //! What a command came to.
 
+use t1_elf::ElfError;
+
 /// What a command came to, with all that its line on err tells.
 #[derive(Clone, Copy, Debug, PartialEq, Eq)]
 pub enum Verdict {
     Good,
     Usage,
-    /// The input has not the first form.
-    OneSegmentOnly,
+    /// The input is longer than an input may be.
+    TooLong,
+    /// The input is no program that can be loaded.
+    Misformed(ElfError),
     /// The run met a point that is not built, at this PC.
     NotBuilt(u64),
     /// The strand ended by a trap of this type at trap level 6.

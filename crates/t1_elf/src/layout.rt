@@ -41,7 +41,8 @@ fn lay_chunk(memory: &mut [u8], chunk: &Chunk)
 #[tactic(auto, unfolding(crate::specs::Images::laid))]
 pub fn lay(alloc: Global, object: &Object, ram: u64) -> Result<Image, AllocError>
     requires { All (IsBelow ram) object.now.chunks }
-    ensures { IfOk result (λ image. image ≡ image_of object.now ram) }
+    ensures value { IfOk result (λ image. image ≡ image_of object.now ram) }
+    ensures size { IfOk result (λ image. length image.ram ≡ ram) }
 {
     let mut memory = Vec::from_elem(alloc, 0, ram as usize)?;
     for chunk in object.chunks.as_slice() {

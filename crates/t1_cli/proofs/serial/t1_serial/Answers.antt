@@ -1,11 +1,18 @@
-use Rattle.std.proofs.Common.{◌≡◌, List, ℕ, subst, sym, ◌∙◌}
-use Rattle.t1_cli.specs.Serial.{TellsLine}
+use Rattle.std.proofs.Common.{◌≡◌, List, ℕ, sym, ◌∙◌}
+use Rattle.t1_cli.proofs.Verdicts.{task_answers, serves_asked, usage_of}
 use Rattle.t1_cli.proofs.serial.t1_serial.Goals as goal
+
+pub returns-clause-usage : goal.returns-clause-usage
+returns-clause-usage g c = usage_of _ _ c.serve-verdict.result _ c.read_task-asked.ensures.value c.status.ensures c.serve-verdict.ensures.usage
+
+pub returns-clause-answers : goal.returns-clause-answers
+returns-clause-answers g c =
+    task_answers _ _ _ _ _ _ c.serve-verdict.result _ c.read_task-asked.ensures.value c.status.ensures c.serve-verdict.ensures.serves c.serve-verdict.ensures.end
 
 pub returns-clause-line : goal.returns-clause-line
 returns-clause-line g c = record {
   verdict = c.serve-verdict.result;
   status_is = sym c.status.ensures;
-  serves = c.serve-verdict.ensures.serves;
+  serves = serves_asked _ _ _ _ _ c.serve-verdict.result c.read_task-asked.ensures.value c.serve-verdict.ensures.serves;
   told = rw (c.as_slice.ensures ∙ c.line.ensures) at c.tell.ensures;
 }

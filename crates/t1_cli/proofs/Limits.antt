@@ -1,0 +1,65 @@
+-- What is known of the machine that the words ask for, and of words one after another.
+use Rattle.std.proofs.Common.{◌≡◌, ℕ, suc, ◌+◌, ◌*◌, ◌%◌, ◌<◌, ◌≤◌, ◌==◌, ◌&&◌, nat_le, Bool, true, List, [], ◌∷◌, length, drop, map, get_or, Option, Some, None, refl, ap, sym, ◌∙◌, arith}
+use Rattle.std.proofs.lemmas.Bool.{and_parts, leb-true, eqb-true}
+use Rattle.std.proofs.Math.ListN.{drop_of_length-le}
+use Rattle.std.proofs.Math.Seq.{drop-cons}
+use Rattle.t1_event.specs.declared.report.Config.{Config}
+use Rattle.t1_cli.specs.declared.command.Given.{Given}
+use Rattle.t1_cli.specs.declared.command.Reading.{Reading}
+use Rattle.t1_cli.specs.Words.{is_set_count, is_in_limits, read_next, ended, options_after, IsOneStrand}
+
+pub one_strand : (config : Config) → is_in_limits config ≡ true → config.cores ≡ 1 → config.strands ≡ 1 → IsOneStrand config
+unfolding is_in_limits
+one_strand config h core_is strand_is =
+    let cores : Bool = nat_le 1 config.cores && nat_le config.cores 8 in
+    let strands : Bool = nat_le 1 config.strands && nat_le config.strands 4 in
+    let low : Bool = nat_le 65536 config.ram in
+    let most : Bool = nat_le config.ram 268435456 in
+    let blocks : Bool = config.ram % 65536 == 0 in
+    let sets : Bool = is_set_count config.sets in
+    let some : Bool = nat_le 1 config.budget in
+    let few : Bool = nat_le config.budget 1000000 in
+    let all : Bool = nat_le (config.budget * (config.cores * config.strands)) 1000000 in
+    let a = and_parts cores (strands && ((low && (most && blocks)) && (sets && (some && (few && all))))) h in
+    let b = and_parts strands ((low && (most && blocks)) && (sets && (some && (few && all)))) a.1 in
+    let c = and_parts (low && (most && blocks)) (sets && (some && (few && all))) b.1 in
+    let d = and_parts low (most && blocks) c.0 in
+    let e = and_parts most blocks d.1 in
+    let f = and_parts sets (some && (few && all)) c.1 in
+    let g = and_parts some (few && all) f.1 in
+    let k = and_parts few all g.1 in
+    record {
+      cores = core_is;
+      strands = strand_is;
+      ram = leb-true 65536 config.ram d.0;
+      most = leb-true config.ram 268435456 e.0;
+      blocks = eqb-true (config.ram % 65536) 0 e.1;
+      budget = leb-true config.budget 1000000 k.0;
+    }
+
+-- ---- words one after another
+
+pub words_next : {A : Type 0} (f : A → List ℕ) (words : List A) (i : ℕ) (word : A) → i < length words → word ≡ get_or words i word
+    → map f (drop i words) ≡ f word ∷ map f (drop (i + 1) words)
+words_next f words i word less is =
+    let next : suc i ≡ i + 1 = omega arith in
+    ap (map f) (drop-cons words i word less ∙ ap (λ w. w ∷ drop (suc i) words) (sym is) ∙ ap (λ k. word ∷ drop k words) next)
+
+-- one word more is read
+pub options_next : {A : Type 0} (f : A → List ℕ) (words : List A) (i : ℕ) (word : A) (reading : Reading) (read : Option Reading)
+    → i < length words → word ≡ get_or words i word → read ≡ read_next reading (f word)
+    → options_after read (map f (drop (i + 1) words)) ≡ options_after (Some reading) (map f (drop i words))
+unfolding options_after
+options_next f words i word reading read less is came =
+    ap (λ r. options_after r (map f (drop (i + 1) words))) came
+    ∙ ap (options_after (Some reading)) (sym (words_next f words i word less is))
+
+-- no word is left
+pub options_done : {A : Type 0} (f : A → List ℕ) (words : List A) (i : ℕ) (reading : Reading) → length words ≤ i
+    → options_after (Some reading) (map f (drop i words)) ≡ ended reading.given reading.waiting
+unfolding options_after
+options_done f words i reading past = ap (λ ws. options_after (Some reading) (map f ws)) (drop_of_length-le words past)
+
+pub no_options : (words : List (List ℕ)) → options_after None words ≡ None
+unfolding options_after
+no_options words = refl

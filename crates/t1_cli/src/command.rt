@@ -1,0 +1,67 @@
+//! The commands, and what their words ask for.
+
+use t1_event::Config;
+
+/// What the words of the command line ask for.
+#[derive(Clone, Copy, Debug, PartialEq, Eq)]
+pub enum Command {
+    /// A run of a machine, by a schedule that is drawn from the seed or by turns; with `brief` the
+    /// summary is written in place of the log.
+    Run {
+        config: Config,
+        seed: Option<u64>,
+        brief: bool,
+    },
+    /// A run of a machine in threads.
+    Live {
+        config: Config,
+    },
+    Asm,
+    Dis,
+    Check,
+    /// A guest of so many words, drawn from the seed.
+    Gen {
+        seed: u64,
+        size: u32,
+    },
+}
+
+/// What the serial command does today: a run of one strand on one flat memory, or a guest.
+#[derive(Clone, Copy, Debug, PartialEq, Eq)]
+pub(crate) enum Task {
+    Run { config: Config },
+    Gen { seed: u64, size: u32 },
+}
+
+/// An option of the command line.
+#[derive(Clone, Copy, Debug, PartialEq, Eq)]
+pub(crate) enum Flag {
+    Cores,
+    Strands,
+    Ram,
+    Sets,
+    Budget,
+    Seed,
+    Size,
+    Brief,
+}
+
+/// The options that were given, each at most once.
+#[derive(Clone, Copy, Debug, PartialEq, Eq)]
+pub(crate) struct Given {
+    pub(crate) cores: Option<u64>,
+    pub(crate) strands: Option<u64>,
+    pub(crate) ram: Option<u64>,
+    pub(crate) sets: Option<u64>,
+    pub(crate) budget: Option<u64>,
+    pub(crate) seed: Option<u64>,
+    pub(crate) size: Option<u64>,
+    pub(crate) brief: bool,
+}
+
+/// The options so far, and the one whose number is still to come.
+#[derive(Clone, Copy, Debug, PartialEq, Eq)]
+pub(crate) struct Reading {
+    pub(crate) given: Given,
+    pub(crate) waiting: Option<Flag>,
+}
