@@ -51,6 +51,7 @@ b536703f srlx %i1, 63, %i2
 b53e703f srax %i1, 63, %i2
 b52e401b sll %i1, %i3, %i2
 87385002 srax %g1, %g2, %g3
+84006001 add %g1, 1, %g2
 84006fff add %g1, 4095, %g2
 84007000 add %g1, -4096, %g2
 9017e000 or %i7, 0, %o0
@@ -241,7 +242,7 @@ fn words_have_these_texts(rt: HostRuntime) -> Result<(), Fail> {
             tried = tried.saturating_add(1);
         }
     }
-    assert_eq!(rt; tried, 222);
+    assert_eq!(rt; tried, 223);
     Ok(())
 }
 
