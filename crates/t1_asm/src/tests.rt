@@ -53,6 +53,7 @@ srlx %i1, 63, %i2 = b536703f
 srax %i1, 63, %i2 = b53e703f
 sll %i1, %i3, %i2 = b52e401b
 srax %g1, %g2, %g3 = 87385002
+add %g1, 1, %g2 = 84006001
 add %g1, 4095, %g2 = 84006fff
 add %g1, -4096, %g2 = 84007000
 add %g1, %lo(0x12345678), %g2 = 84006278
@@ -637,7 +638,7 @@ fn lines_make_these_words(rt: HostRuntime) -> Result<(), Fail> {
             }
         }
     }
-    assert_eq!(rt; tried, 356);
+    assert_eq!(rt; tried, 357);
     Ok(())
 }
 
