@@ -1,1 +1,6 @@
+pub mod Rings
 pub mod Slots
+pub mod Machine
+pub mod Runs
+pub mod Start
+pub mod Pushes

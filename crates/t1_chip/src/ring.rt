@@ -1,5 +1,6 @@
 //! The rings of the serial machine.
-ghost use Rattle.std.specs.Prelude.{◌≡◌, ◌<◌, ◌≤◌, ◌++◌, ◌∷◌, [], length, nat_lt, nat_eq, IfOk, IfSome, IfNone, drop};
+ghost use Rattle.std.specs.Prelude.{◌≡◌, ◌<◌, ◌≤◌, ◌++◌, ◌∷◌, [], length, nat_lt, IfOk, IfSome, IfNone, drop};
+ghost use Rattle.t1_chip.specs.Rings.{is_empty};
 
 use circular_buffer::HeapCircularBuffer;
 use std::alloc::{AllocError, Global};
@@ -43,9 +44,9 @@ impl<T, const MOST: usize> Ring<T, MOST> {
     }
 
     pub fn is_empty(&self) -> bool
-        ensures { result ≡ nat_eq (length self.now) 0 }
+        ensures { result ≡ is_empty self.now }
     {
-        self.items.len() == 0
+        self.items.is_empty()
     }
 
     /// Appends the youngest.
