@@ -8,8 +8,8 @@ ghost use Rattle.t1_chip.specs.Start.{IsRunnable, setup_of, machine_start};
 ghost use Rattle.t1_chip.specs.declared.slot.Slot.TheVariants as slot;
 
 use crate::rooms::{
-    Accesses, DESTINATIONS, Packets, Requests, asker_from, core_after, push_posts, push_request, push_sent,
-    reply_rooms, request_rooms,
+    Accesses, DESTINATIONS, Packets, Requests, asker_from, core_after, push_posts, push_request,
+    push_sent, reply_rooms, request_rooms,
 };
 use crate::slot::Slot;
 use crate::start::{banks, cores, rings};
