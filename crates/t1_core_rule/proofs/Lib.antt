@@ -1,0 +1,11 @@
+pub mod Numbers
+pub mod Lines
+pub mod Looks
+pub mod Moves
+pub mod Execs
+pub mod Needs
+pub mod Drains
+pub mod Lists
+pub mod Steadies
+pub mod Taken
+pub mod Walks

@@ -1,0 +1,45 @@
+-- The laws of a core.
+use Rattle.std.specs.Prelude.{ℕ, ◌≡◌, ◌%◌, ◌<◌, ◌≤◌, ◌⊎◌, List, length}
+use Rattle.t1_shape.specs.Shapes.{Shape}
+use Rattle.t1_packet.specs.declared.packet.Packet.{Packet}
+use Rattle.t1_packet.specs.Data.{RequestData}
+use Rattle.t1_joint.specs.Lists.{IsIn}
+use Rattle.t1_joint.specs.Start.{Setup}
+use Rattle.t1_joint.specs.Proper.{IsTime}
+use Rattle.t1_joint.specs.CoreRule.{IsMeant}
+use Rattle.t1_core_rule.specs.Histories.{History, Call, after_call, after_calls, begun}
+use Rattle.t1_core_rule.specs.Parts.{part_of}
+
+-- what a core was at any time of its run
+abbrev pub history_of : Setup → ℕ → List Call → History
+history_of w core calls = after_calls (begun w core) calls
+
+-- RAM is of whole blocks of 64 KiB
+abbrev pub IsWhole : Setup → Type 0
+IsWhole w = w.config.ram % 65536 ≡ 0
+
+-- whatever calls were made and whatever packets came: each request that the core sent to a destination is
+-- meant for it, and is of a strand of its own, of a size that there is, aligned, in RAM or I/O space
+abbrev pub RequestsAreMeant : Type 0
+RequestsAreMeant =
+    (w : Setup) (core dest : ℕ) (calls : List Call) (request : RequestData) → IsWhole w
+    → IsIn request ((part_of w.shape (history_of w core calls)).sent dest) → IsMeant w core dest request
+
+-- each packet that came has an index below the core's time, or the last index that there is
+abbrev pub PacketsArePast : Type 0
+PacketsArePast =
+    (w : Setup) (core : ℕ) (calls : List Call) (packet : Packet) → IsWhole w → IsIn packet (history_of w core calls).received
+    → (packet.index < (history_of w core calls).core.time) ⊎ (packet.index ≡ 4294967295)
+
+-- the clock is 0 or one past the index of a packet that came, and never falls
+pub record ClockGoesOn (w : Setup) (core : ℕ) (calls : List Call) (call : Call) : Type 0 where
+  pub is_time : IsTime (history_of w core calls).received (history_of w core calls).core.time
+  pub rises : (history_of w core calls).core.time ≤ (after_call (history_of w core calls) call).core.time
+
+abbrev pub ClocksGoOn : Type 0
+ClocksGoOn = (w : Setup) (core : ℕ) (calls : List Call) (call : Call) → IsWhole w → ClockGoesOn w core calls call
+
+-- a core has as many traces as strands
+abbrev pub TracesAreOfStrands : Type 0
+TracesAreOfStrands =
+    (w : Setup) (core : ℕ) (calls : List Call) → IsWhole w → length (part_of w.shape (history_of w core calls)).traces ≡ w.config.strands

@@ -1,0 +1,7 @@
+pub mod Histories
+pub mod Parts
+pub mod Outs
+pub mod Replays
+pub mod Steady
+pub mod Fitting
+pub mod Laws

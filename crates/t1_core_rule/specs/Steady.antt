@@ -1,0 +1,59 @@
+-- What a core keeps whatever packets come.
+use Rattle.std.specs.Prelude.{ℕ, ◌≡◌, ◌≤◌, ◌<◌, ◌⊎◌, List, [], ◌∷◌, length, Some}
+use Rattle.std.specs.List.{slice_get}
+use Rattle.t1_num.specs.Memory.{IsSize}
+use Rattle.t1_shape.specs.Shapes.Shape.{T1}
+use Rattle.t1_packet.specs.declared.cache.Cache.{Cache}
+use Rattle.t1_packet.specs.declared.cache.Cache.TheVariants.{Dcache, Icache}
+use Rattle.t1_packet.specs.Caches.{layout, width}
+use Rattle.t1_packet.specs.Data.{RequestData}
+use Rattle.t1_sbuf.specs.declared.entry.Entry.{Entry}
+use Rattle.t1_l1.specs.Cache.{CacheState, ArePointers}
+use Rattle.t1_event.specs.Items.{IsIo}
+use Rattle.t1_joint.specs.Lists.{IsIn}
+use Rattle.t1_joint.specs.Start.{Setup}
+use Rattle.t1_joint.specs.Proper.{IsTime}
+use Rattle.t1_joint.specs.CoreRule.{IsSized, IsAsked, SeenAscends}
+use Rattle.t1_received.specs.Laws.{ArePast}
+use Rattle.t1_core.specs.Threads.{ThreadState}
+use Rattle.t1_core.specs.Steps.{CoreState}
+use Rattle.t1_core.specs.Stores.{AreSent}
+use Rattle.t1_core_rule.specs.Histories.{History}
+
+-- a store of the buffer: of a size that there is, aligned, in RAM or I/O space
+abbrev pub IsGoodEntry : ℕ → Entry → Type 0
+IsGoodEntry ram e = IsSized e.addr e.size × ((e.addr < ram) ⊎ IsIo e.addr)
+
+abbrev pub AreGoodEntries : ℕ → List Entry → Type 0
+AreGoodEntries ram [] = Unit {0}
+AreGoodEntries ram (e ∷ es) = IsGoodEntry ram e × AreGoodEntries ram es
+
+-- a cache of the chip, whose pointers are ways
+pub record IsCache (cache : Cache) (c : CacheState) : Type 0 where
+  pub layout_is : c.layout ≡ layout T1 cache
+  pub width_is : c.width ≡ width cache
+  pub pointers_are : ArePointers (layout T1 cache).ways c.pointers
+
+-- a request as this core sends it
+pub record IsOwn (w : Setup) (core time : ℕ) (request : RequestData) : Type 0 where
+  pub core_is : request.core ≡ core
+  pub strand_is : request.strand < w.config.strands
+  pub past : request.seen ≤ time
+  pub asked : IsAsked T1 w.config.ram request.op
+
+pub record IsThread (ram : ℕ) (t : ThreadState) : Type 0 where
+  pub sent : AreSent t.stores t.times
+  pub good : AreGoodEntries ram t.stores
+
+pub record IsSteady (w : Setup) (core : ℕ) (h : History) : Type 0 where
+  pub number : h.core.number ≡ core
+  pub ram : h.core.ram ≡ w.config.ram
+  pub size : length h.core.threads ≡ w.config.strands
+  pub dcache : IsCache Dcache h.core.dcache
+  pub icache : IsCache Icache h.core.icache
+  pub time : IsTime h.received h.core.time
+  pub past : ArePast h.core.time h.received
+  pub own : (request : RequestData) → IsIn request h.sent → IsOwn w core h.core.time request
+  pub sent_times : (request : RequestData) → IsIn request h.sent → IsTime h.received request.seen
+  pub ascends : SeenAscends 0 h.sent
+  pub threads : (s : ℕ) (t : ThreadState) → slice_get h.core.threads s ≡ Some t → IsThread w.config.ram t

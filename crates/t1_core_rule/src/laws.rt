@@ -1,0 +1,22 @@
+//! Laws of the histories of a core.
+ghost use Rattle.t1_core_rule.specs.Laws.{RequestsAreMeant, PacketsArePast, ClocksGoOn, TracesAreOfStrands};
+
+/// Whatever packets came, each request of a core is one that its destination may serve.
+pub fn requests_are_meant()
+    ensures { RequestsAreMeant }
+{}
+
+/// Whatever packets came, each has an index below the core's time, or the last index that there is.
+pub fn packets_are_past()
+    ensures { PacketsArePast }
+{}
+
+/// A core's clock is 0 or one past the index of a packet that came, and never falls.
+pub fn clocks_go_on()
+    ensures { ClocksGoOn }
+{}
+
+/// A core has as many traces as strands.
+pub fn traces_are_of_strands()
+    ensures { TracesAreOfStrands }
+{}
