@@ -13,7 +13,7 @@ use Rattle.t1_event.specs.declared.item.Item.{Item}
 use Rattle.t1_joint.specs.Lists.{IsIn}
 use Rattle.t1_joint.specs.Rows.{Caches}
 use Rattle.t1_strand_order.specs.Tracks.{Send}
-use Rattle.t1_received.specs.Requests.{of_class}
+use Rattle.t1_received.specs.Requests.{of_class, GoTo}
 use Rattle.t1_core.specs.declared.asker.Asker.{Asker}
 use Rattle.t1_core.specs.declared.phase.Phase.{Phase}
 use Rattle.t1_core.specs.declared.answers.Drained.{Drained}
@@ -86,6 +86,8 @@ module _ (x : Asker) (icache dcache : CacheState) (caches : Caches) (pointers : 
         ];
         outs = λ f b. joins after times b;
         keeps = λ k y h. h;
+        made = λ k y h. inl h;
+        way = λ f d. (op_dest T1 (store_op e), rw (after, times) (only n.rest));
         event = Some Send;
         is = rw (after, n.are) refl;
         right = λ ready. record {
@@ -113,6 +115,11 @@ module _ (x : Asker) (icache dcache : CacheState) (caches : Caches) (pointers : 
       joins after times false =
           sym (ap (λ (rs : List RequestData). read_out x.number x.strand x.ram t.strand (length t.items) t.phase ++ rs) (class_store_not x.strand (request_of x e.item (store_op e)) refl)
           ∙ append-nil (read_out x.number x.strand x.ram t.strand (length t.items) t.phase))
+
+      -- what is out is this store alone
+      only : (es : List Entry) → GoTo T1 (op_dest T1 (store_op e)) (store_request x.number x.strand (record e { sent = true }) x.time ∷ stores_out x.number x.strand es [])
+      only [] = (refl, tt)
+      only (d ∷ ds) = (refl, tt)
 
   next_move : AreSent t.stores t.times → (o : Option Entry) → next_to_send_of t.stores ≡ o → Move (drain_next x t o)
   next_move f None e = still drained.Out refl

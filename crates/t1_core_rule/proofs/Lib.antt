@@ -9,3 +9,8 @@ pub mod Lists
 pub mod Steadies
 pub mod Taken
 pub mod Walks
+pub mod Replays
+pub mod Follows
+pub mod Sends
+pub mod Budgets
+pub mod Goes

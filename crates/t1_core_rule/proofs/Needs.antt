@@ -20,7 +20,8 @@ use Rattle.t1_sbuf.specs.Looks.{look_of}
 use Rattle.t1_l1.specs.Cache.{CacheState}
 use Rattle.t1_event.specs.declared.item.Item.{Item}
 use Rattle.t1_event.specs.declared.item.ItemKind.TheVariants as kind
-use Rattle.t1_event.specs.declared.item.How.TheVariants.{Unplaced}
+use Rattle.t1_event.specs.declared.item.How.TheVariants.{Unplaced, Commit}
+use Rattle.t1_event.specs.Times.{at_of}
 use Rattle.t1_event.specs.Kinds.{IsWrite}
 use Rattle.t1_event.specs.Items.{IsBarrier, membar_item, flush_item}
 use Rattle.t1_joint.specs.Replay.{is_fetchable}
@@ -66,6 +67,7 @@ module _ (x : Asker) (blocks : x.ram % 65536 ≡ 0) (icache dcache : CacheState)
       let u : Strand = after_of s (insn_of word) 0 in
       execs.item_move x blocks icache dcache ic dc caches pointers s es ts xs budget (phase.Have word) (next_phase u.units budget) u y (Fence y)
       (next_asked x.ram u u.units budget) (next_reads x.number x.strand x.ram u (length (xs ++ y ∷ [])) u.units budget) refl refl (inr refl)
+      (record { no_commit = λ n seen c. (let clash : Unplaced ≡ Commit n seen = sym (ap (λ (z : Item). z.how) how) ∙ c in cc); time = inl (ap (λ (z : Item). at_of z.how) how) })
       (λ r. record {
         allowed = record { kind = which; how = ap (λ (z : Item). z.how) how; empty = λ b. ap numbers_of (empty b); free = refl };
         placed = tt;

@@ -1,0 +1,139 @@
+-- A strand moves and requests go out: where the packets are proper, the core goes on as it has to.
+use Rattle.std.proofs.Common.{◌≡◌, ◌≢◌, ◌⊎◌, ◌≤◌, ◌<◌, ℕ, ◌+◌, ◌*◌, ◌%◌, ◌^◌, Bool, true, false, List, [], ◌∷◌, ◌++◌, length, set, Option, Some, None, refl, ap, sym, ◌∙◌, subst, inl, inr, arith, append_assoc}
+use Rattle.std.specs.List.{slice_get}
+use Rattle.std.proofs.lemmas.Bool.{cases_eq}
+use mathlib.Core.List.{append-nil}
+use Rattle.t1_shape.specs.Shapes.Shape.{T1}
+use Rattle.t1_state.specs.declared.strand.Strand.{Strand}
+use Rattle.t1_packet.specs.declared.cache.Cache.{Cache}
+use Rattle.t1_packet.specs.declared.cache.Cache.TheVariants.{Dcache, Icache}
+use Rattle.t1_packet.specs.declared.packet.Packet.{Packet}
+use Rattle.t1_packet.specs.Data.{RequestData, ReplyData}
+use Rattle.t1_packet.specs.Ops.{asked_way}
+use Rattle.t1_l1.specs.Cache.{CacheState}
+use Rattle.t1_event.specs.declared.item.Item.{Item}
+use Rattle.t1_event.specs.declared.item.How.{How}
+use Rattle.t1_event.specs.declared.item.How.TheVariants.{Commit}
+use Rattle.t1_event.specs.Times.{at_of}
+use Rattle.t1_joint.specs.Lists.{IsIn}
+use Rattle.t1_joint.specs.Start.{Setup}
+use Rattle.t1_joint.specs.Parts.{answered}
+use Rattle.t1_joint.specs.Proper.{IsTime, pointers_by, victim_by}
+use Rattle.t1_joint.specs.Waits.{HasItem}
+use Rattle.t1_joint.specs.Rows.{Caches}
+use Rattle.t1_strand_order.specs.Tracks.{Track, Event, after}
+use Rattle.t1_strand_order.specs.Kept.{IsKept}
+use Rattle.t1_strand_order.specs.Places.{ArePlacedRightly}
+use Rattle.t1_strand_order.specs.Laws.{one_at_a_time}
+use Rattle.t1_strand_order.proofs.Histories.{events_keep_order, events_keep_places}
+use Rattle.t1_received.specs.Requests.{sent_to}
+use Rattle.t1_received.specs.Caches.{slots_by}
+use Rattle.t1_received.proofs.Lists.{in_more}
+use Rattle.t1_received.proofs.Sorts.{to_append, out_more}
+use Rattle.t1_core.specs.declared.asker.Asker.{Asker}
+use Rattle.t1_core.specs.Threads.{ThreadState}
+use Rattle.t1_core.specs.Steps.{with_thread, asker}
+use Rattle.t1_core_rule.specs.Histories.{History}
+use Rattle.t1_core_rule.specs.Outs.{outs_at, track_of}
+use Rattle.t1_core_rule.specs.Replays.{FollowsSoFar}
+use Rattle.t1_core_rule.specs.Steady.{IsSteady}
+use Rattle.t1_core_rule.specs.Fitting.{IsMadeBy, IsFittingThread, IsFitting, start_at}
+use Rattle.t1_core_rule.proofs.Moves.{after_if, IsAllowedIf, IsPlacedIf, IsMadeNow, IsReady, IsRight, IsMove}
+use Rattle.t1_core_rule.proofs.Lists.{got_set, put_same, put_other, set_more}
+
+-- at most one event keeps the order and the places
+kept_if : (s : Track) (event : Option Event) → IsAllowedIf s event → IsKept one_at_a_time s → IsKept one_at_a_time (after_if s event)
+kept_if s None a k = k
+kept_if s (Some event) a k = events_keep_order one_at_a_time s event a k
+
+right_if : (ram : ℕ) (caches : Caches) (s : Track) (event : Option Event) → IsAllowedIf s event → IsKept one_at_a_time s → IsPlacedIf ram caches s event
+    → ArePlacedRightly T1 ram caches s → ArePlacedRightly T1 ram caches (after_if s event)
+right_if ram caches s None a k row r = r
+right_if ram caches s (Some event) a k row r = events_keep_places T1 ram caches caches one_at_a_time s event a k (λ t l. refl) row r
+
+-- an item that a reply made stays, where placed items do
+pub made_by_moves : (threads : List ThreadState) (i : ℕ) (t u : ThreadState) (index : ℕ) (r : ReplyData) → slice_get threads i ≡ Some t
+    → ((k : ℕ) (y : Item) (n seen : ℕ) → HasItem t.items k y → y.how ≡ Commit n seen → HasItem u.items k y) → IsMadeBy threads index r → IsMadeBy (set threads i u) index r
+made_by_moves threads i t u index r e keeps m =
+    elim (cases_eq r.strand i) [
+      | inl same ↦
+          let here : slice_get threads i ≡ Some m.thread = subst (λ (k : ℕ). slice_get threads k ≡ Some m.thread) same m.has_thread in
+          let two : Some m.thread ≡ Some t = sym here ∙ e in
+          let is : m.thread ≡ t = cc (two) in
+          record {
+            thread = u;
+            has_thread = subst (λ (k : ℕ). slice_get (set threads i u) k ≡ Some u) (sym same) (put_same threads i t u e);
+            item = m.item;
+            has = keeps r.item m.item index r.seen (subst (λ (v : ThreadState). HasItem v.items r.item m.item) is m.has) m.how;
+            access = m.access;
+            how = m.how;
+          }
+      | inr apart ↦ record { thread = m.thread; has_thread = put_other threads i r.strand u apart ∙ m.has_thread; item = m.item; has = m.has; access = m.access; how = m.how }
+    ]
+
+module _ (w : Setup) (core : ℕ) (h : History) (i room : ℕ) (t u : ThreadState) (e : slice_get h.core.threads i ≡ Some t) (new : List RequestData) (s : IsSteady w core h) (f : IsFitting w h) where
+  abbrev x : Asker
+  x = asker h.core i room
+
+  abbrev caches : Caches
+  caches = slots_by T1 h.core.number h.received
+
+  abbrev pointers : Cache → List ℕ
+  pointers = λ cache. pointers_by T1 h.received h.core.time cache
+
+  pub ready : IsReady x h.core.icache h.core.dcache caches pointers t
+  ready =
+      let g = f.threads i t e in
+      record { icache_is = f.icache; dcache_is = f.dcache; icache_bytes = f.bytes Icache; dcache_bytes = f.bytes Dcache; kept = g.kept; entries = g.entries }
+
+  module _ (m : IsMove x h.core.icache h.core.dcache caches pointers t u new) (budget : u.budget ≡ t.budget) (follows : FollowsSoFar h.core.ram (start_at w h.core.number i) u) where
+    thread_fits : IsFittingThread h.core.number h.core.ram h.core.time w.config.budget (start_at w h.core.number i) h.received i u
+    thread_fits =
+        let g = f.threads i t e in
+        let r = m.right ready in
+        let before : Track = track_of h.core.ram h.core.time t in
+        record {
+          budget_is = budget ∙ g.budget_is;
+          kept = subst (λ (v : Track). IsKept one_at_a_time v) (sym m.is) (kept_if before m.event r.allowed g.kept);
+          right = subst (λ (v : Track). ArePlacedRightly T1 h.core.ram caches v) (sym m.is) (right_if h.core.ram caches before m.event r.allowed g.kept r.placed g.right);
+          entries = r.entries;
+          times = λ k y g_y.
+              elim (m.made k y g_y) [
+                | inl old ↦ g.times k y old
+                | inr now ↦ elim now.time [ inl zero_is ↦ inl zero_is | inr same ↦ subst (λ (n : ℕ). IsTime h.received n) (sym same) s.time ]
+              ];
+          way = m.way (s.threads i t e).sent g.way;
+          came = λ k n seen y g_y how.
+              elim (m.made k y g_y) [ inl old ↦ g.came k n seen y old how | inr now ↦ absurd (now.no_commit n seen how) ];
+          follows = follows;
+        }
+
+    pub moved_fitting : IsFitting w (record { core = with_thread h.core i u; received = h.received; sent = h.sent ++ new })
+    moved_fitting = record {
+      rest = λ d. f.rest d ++ sent_to T1 d new;
+      are = λ d.
+          sym (append_assoc (answered T1 h.core.number d h.received) (f.rest d) (sent_to T1 d new))
+          ∙ (ap (λ (rs : List RequestData). rs ++ sent_to T1 d new) (f.are d) ∙ sym (to_append T1 d h.sent new));
+      out = λ j b d.
+          out_more T1 j b d (f.rest d) new (outs_at h.core.number j h.core.ram b (slice_get h.core.threads j)) (outs_at h.core.number j h.core.ram b (slice_get (set h.core.threads i u) j)) (f.out j b d)
+          (set_more h.core.number h.core.ram i h.core.threads t u new e (λ r g. (m.fresh r g).strand) (m.outs (s.threads i t e).sent) j b);
+      threads = λ j v g.
+          elim (got_set h.core.threads i u j v g) [
+            | inl p ↦
+                subst (λ (n : ThreadState). IsFittingThread h.core.number h.core.ram h.core.time w.config.budget (start_at w h.core.number j) h.received j n) p.1
+                (subst (λ (k : ℕ). IsFittingThread h.core.number h.core.ram h.core.time w.config.budget (start_at w h.core.number k) h.received k u) (sym p.0) thread_fits)
+            | inr p ↦ f.threads j v p.1
+          ];
+      replies = λ p r g is. made_by_moves h.core.threads i t u p.index r e (λ k y n seen has how. m.keeps k y has) (f.replies p r g is);
+      dcache = f.dcache;
+      icache = f.icache;
+      bytes = f.bytes;
+      ways = λ r cache line g fills.
+          elim (in_more r h.sent new g) [
+            | inl o ↦ f.ways r cache line o fills
+            | inr n ↦
+                let seen : r.seen ≡ h.core.time = (m.fresh r n).seen in
+                let v : asked_way r.op ≡ victim_by T1 h.core.number h.received h.core.time cache line = (m.right ready).ways r cache line n fills in
+                subst (λ (k : ℕ). asked_way r.op ≡ victim_by T1 h.core.number h.received k cache line) (sym seen) v
+          ];
+    }
