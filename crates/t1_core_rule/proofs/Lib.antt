@@ -14,3 +14,7 @@ pub mod Follows
 pub mod Sends
 pub mod Budgets
 pub mod Goes
+pub mod Kills
+pub mod Answers
+pub mod Came
+pub mod Acknowledged
