@@ -18,3 +18,5 @@ pub mod Kills
 pub mod Answers
 pub mod Came
 pub mod Acknowledged
+pub mod Bytes
+pub mod Takes
