@@ -20,3 +20,4 @@ pub mod Came
 pub mod Acknowledged
 pub mod Bytes
 pub mod Takes
+pub mod Fits

@@ -80,11 +80,11 @@ module _ (w : Setup) (core : ℕ) (h : History) (i room : ℕ) (t u : ThreadStat
         ];
   }
 
-no_caches : Caches
+pub no_caches : Caches
 no_caches = λ t c. []
 
-no_pointers : Cache → List ℕ
-no_pointers = λ c. []
+pub no_pointers_at : Cache → List ℕ
+no_pointers_at = λ c. []
 
 module _ (w : Setup) (core : ℕ) (h : History) (i room : ℕ) (whole : w.config.ram % 65536 ≡ 0) (s : IsSteady w core h) where
   blocks : h.core.ram % 65536 ≡ 0
@@ -95,8 +95,8 @@ module _ (w : Setup) (core : ℕ) (h : History) (i room : ℕ) (whole : w.config
   exec_in None e = subst (λ (rs : List RequestData). IsSteady w core (record { core = h.core; received = h.received; sent = rs })) (sym (append-nil h.sent)) s
   exec_in (Some t) e =
       let x : Asker = asker h.core i room in
-      moved_steady w core h i room t (thread_exec x h.core.icache h.core.dcache t).thread e (asked_by (thread_exec x h.core.icache h.core.dcache t).did) s no_caches no_pointers
-      (exec_move x blocks h.core.icache h.core.dcache s.icache s.dcache no_caches no_pointers t)
+      moved_steady w core h i room t (thread_exec x h.core.icache h.core.dcache t).thread e (asked_by (thread_exec x h.core.icache h.core.dcache t).did) s no_caches no_pointers_at
+      (exec_move x blocks h.core.icache h.core.dcache s.icache s.dcache no_caches no_pointers_at t)
 
   pub exec_steady : IsSteady w core (after_exec h i room)
   unfolding exec_of
@@ -108,8 +108,8 @@ module _ (w : Setup) (core : ℕ) (h : History) (i room : ℕ) (whole : w.config
   drain_in (Some t) e =
       let x : Asker = asker h.core i room in
       let was = s.threads i t e in
-      moved_steady w core h i room t (thread_drain x t).thread e (drained_by (thread_drain x t).did) s no_caches no_pointers
-      (drain_move x h.core.icache h.core.dcache no_caches no_pointers t (subst (λ (n : ℕ). AreGoodEntries n t.stores) (sym s.ram) was.good) was.sent)
+      moved_steady w core h i room t (thread_drain x t).thread e (drained_by (thread_drain x t).did) s no_caches no_pointers_at
+      (drain_move x h.core.icache h.core.dcache no_caches no_pointers_at t (subst (λ (n : ℕ). AreGoodEntries n t.stores) (sym s.ram) was.good) was.sent)
 
   pub drain_steady : IsSteady w core (after_drain h i room)
   unfolding drain_of

@@ -54,7 +54,7 @@ first_cache : (cache : Cache) → 0 < (layout T1 cache).ways → IsCache cache (
 unfolding empty_cache
 first_cache cache some = record { layout_is = refl; width_is = refl; pointers_are = pointers_are_ways.empty (layout T1 cache) (width cache) some }
 
-start_steady : (w : Setup) (core : ℕ) → IsSteady w core (begun w core)
+pub start_steady : (w : Setup) (core : ℕ) → IsSteady w core (begun w core)
 unfolding new_core
 start_steady w core = record {
   number = refl;

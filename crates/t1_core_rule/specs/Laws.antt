@@ -1,18 +1,28 @@
 -- The laws of a core.
-use Rattle.std.specs.Prelude.{ℕ, ◌≡◌, ◌%◌, ◌<◌, ◌≤◌, ◌⊎◌, List, length}
+use Rattle.std.specs.Prelude.{ℕ, ◌≡◌, ◌%◌, ◌<◌, ◌≤◌, ◌⊎◌, List, [], ◌∷◌, length, Some}
 use Rattle.t1_shape.specs.Shapes.{Shape}
 use Rattle.t1_packet.specs.declared.packet.Packet.{Packet}
-use Rattle.t1_packet.specs.Data.{RequestData}
+use Rattle.t1_packet.specs.Data.{RequestData, ReplyData}
 use Rattle.t1_joint.specs.Lists.{IsIn}
 use Rattle.t1_joint.specs.Start.{Setup}
 use Rattle.t1_joint.specs.Proper.{IsTime}
-use Rattle.t1_joint.specs.CoreRule.{IsMeant}
-use Rattle.t1_core_rule.specs.Histories.{History, Call, after_call, after_calls, begun}
+use Rattle.t1_joint.specs.CoreRule.{IsMeant, IsCore}
+use Rattle.t1_core_rule.specs.Histories.{History, Call, Exec, Drain, Take, after_call, after_calls, begun}
 use Rattle.t1_core_rule.specs.Parts.{part_of}
 
 -- what a core was at any time of its run
 abbrev pub history_of : Setup → ℕ → List Call → History
 history_of w core calls = after_calls (begun w core) calls
+
+-- the line of a reply has at most 32 bytes, as its type says
+abbrev pub IsWholeCall : Call → Type 0
+IsWholeCall (Exec strand room) = Unit {0}
+IsWholeCall (Drain strand room) = Unit {0}
+IsWholeCall (Take packet) = (reply : ReplyData) → packet.reply ≡ Some reply → length reply.line ≤ 32
+
+abbrev pub AreWhole : List Call → Type 0
+AreWhole [] = Unit {0}
+AreWhole (call ∷ calls) = IsWholeCall call × AreWhole calls
 
 -- RAM is of whole blocks of 64 KiB
 abbrev pub IsWhole : Setup → Type 0
@@ -43,3 +53,9 @@ ClocksGoOn = (w : Setup) (core : ℕ) (calls : List Call) (call : Call) → IsWh
 abbrev pub TracesAreOfStrands : Type 0
 TracesAreOfStrands =
     (w : Setup) (core : ℕ) (calls : List Call) → IsWhole w → length (part_of w.shape (history_of w core calls)).traces ≡ w.config.strands
+
+-- the rule of a core, whole: where a strand may run some units, each history of its calls is a part of a run
+-- as the law of fitting parts asks it of a core
+abbrev pub CoresKeepTheirRule : Type 0
+CoresKeepTheirRule =
+    (w : Setup) (core : ℕ) (calls : List Call) → IsWhole w → 0 < w.config.budget → AreWhole calls → IsCore w core (part_of w.shape (history_of w core calls))
