@@ -1,7 +1,6 @@
 -- The kills and the fills of a packet, as the definitions of caches by packets have them.
-use Rattle.std.proofs.Common.{◌≡◌, ◌<◌, ℕ, ◌+◌, ◌*◌, ◌/◌, ◌^◌, ◌==◌, ◌&&◌, ◌||◌, nat_lt, nat_le, Bool, true, false, List, [], ◌∷◌, take, set, Option, Some, None, refl, ap, sym, ◌∙◌, subst, inl, inr, arith, if◌then◌else◌}
+use Rattle.std.proofs.Common.{◌≡◌, ◌<◌, ℕ, ◌+◌, ◌*◌, ◌/◌, ◌^◌, ◌==◌, ◌&&◌, ◌||◌, nat_lt, nat_le, Bool, true, false, List, [], ◌∷◌, take, set, Option, Some, None, refl, ap, sym, ◌∙◌, subst, inl, inr, if◌then◌else◌}
 use Rattle.std.proofs.lemmas.Bool.{cases_Bool, eq-eqb, lt-ltb}
-use Rattle.std.proofs.lemmas.Nat.{div-mul-add}
 use Rattle.t1_shape.specs.Shapes.Shape.{T1}
 use Rattle.t1_shape.specs.Slots.{Line}
 use Rattle.t1_space.specs.Places.{is_io}
@@ -86,15 +85,8 @@ same_op_self (op.Store a z v) = rw (eq-eqb a a refl, eq-eqb z z refl, eq-eqb v v
 same_op_self (op.Swap a z v) = rw (eq-eqb a a refl, eq-eqb z z refl, eq-eqb v v refl) refl
 same_op_self (op.Cas a z e v) = rw (eq-eqb a a refl, eq-eqb z z refl, eq-eqb e e refl, eq-eqb v v refl) refl
 
-div_small : (value w : ℕ) → value < w → value / w ≡ 0
-div_small value w l =
-    let e : 0 * w + value ≡ value = omega arith in
-    ap (λ (n : ℕ). n / w) (sym e) ∙ div-mul-add 0 w value l
-
 fits_true : (value size : ℕ) → value < 2 ^ (8 * size) → fits value size ≡ true
-fits_true value size l =
-    let z : (value / 2 ^ (8 * size) == 0) ≡ true = eq-eqb (value / 2 ^ (8 * size)) 0 (div_small value (2 ^ (8 * size)) l) in
-    elim (cases_Bool (nat_le 8 size)) [ inl e ↦ rw e refl | inr e ↦ rw (e, z) refl ]
+fits_true value size l = lt-ltb value (2 ^ (8 * size)) l
 
 way_true : (sd si : List (Option Line)) (pd pi : List ℕ) (o : Op) (way : Option ℕ) → IsReplyWay T1 o way → is_way_for (cache_with Dcache sd pd) (cache_with Icache si pi) o way ≡ true
 way_true sd si pd pi (op.Fetch a w) None r = refl

@@ -21,3 +21,5 @@ pub mod Acknowledged
 pub mod Bytes
 pub mod Takes
 pub mod Fits
+pub mod Finds
+pub mod Rules

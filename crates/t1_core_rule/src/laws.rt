@@ -1,5 +1,5 @@
 //! Laws of the histories of a core.
-ghost use Rattle.t1_core_rule.specs.Laws.{RequestsAreMeant, PacketsArePast, ClocksGoOn, TracesAreOfStrands};
+ghost use Rattle.t1_core_rule.specs.Laws.{RequestsAreMeant, PacketsArePast, ClocksGoOn, TracesAreOfStrands, CoresKeepTheirRule};
 
 /// Whatever packets came, each request of a core is one that its destination may serve.
 pub fn requests_are_meant()
@@ -19,4 +19,11 @@ pub fn clocks_go_on()
 /// A core has as many traces as strands.
 pub fn traces_are_of_strands()
     ensures { TracesAreOfStrands }
+{}
+
+/// The rule of a core, whole, for each history of its calls: what it sends is meant for where it goes,
+/// and, where the packets that came are proper, what it has out is what is unanswered, its accesses
+/// stand in program order where the table of places has them, and each strand is its replay so far.
+pub fn cores_keep_their_rule()
+    ensures { CoresKeepTheirRule }
 {}
