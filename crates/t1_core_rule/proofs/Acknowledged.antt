@@ -1,5 +1,5 @@
 -- A strand whose oldest store is acknowledged by a proper packet.
-use Rattle.std.proofs.Common.{◌≡◌, ◌≢◌, ◌⊎◌, ◌≤◌, ◌<◌, ℕ, zero, suc, ◌+◌, Bool, true, false, List, [], ◌∷◌, ◌++◌, length, drop, map, set, Option, Some, None, refl, ap, sym, ◌∙◌, subst, inl, inr, arith}
+use Rattle.std.proofs.Common.{◌≡◌, ◌⊎◌, ◌≤◌, ℕ, zero, suc, ◌+◌, Bool, true, false, List, [], ◌∷◌, ◌++◌, length, Option, Some, None, refl, ap, sym, ◌∙◌, subst, inl, inr}
 use Rattle.std.specs.List.{slice_get}
 use Rattle.std.proofs.lemmas.Bool.{cases_eq}
 use Rattle.t1_shape.specs.Shapes.Shape.{T1}
@@ -14,9 +14,8 @@ use Rattle.t1_event.specs.declared.item.ItemKind.{ItemKind}
 use Rattle.t1_event.specs.declared.item.ItemKind.TheVariants as kind
 use Rattle.t1_event.specs.declared.item.How.{How}
 use Rattle.t1_event.specs.declared.item.How.TheVariants.{Unplaced, Commit}
-use Rattle.t1_event.specs.Kinds.{IsRead, IsAccess}
+use Rattle.t1_event.specs.Kinds.{IsAccess}
 use Rattle.t1_event.specs.Times.{at_of}
-use Rattle.t1_event.specs.Items.{unplaced}
 use Rattle.t1_event.specs.Log.{plain_op}
 use Rattle.t1_event.specs.Records.{op_of}
 use Rattle.t1_joint.specs.Lists.{IsIn}
@@ -33,14 +32,13 @@ use Rattle.t1_strand_order.proofs.Items.{has_placed, placed_has_other, placed_ha
 use Rattle.t1_strand_order.proofs.Histories.{events_keep_order, events_keep_places}
 use Rattle.t1_received.specs.Requests.{of_class, GoTo}
 use Rattle.t1_core.specs.Stores.{store_op}
-use Rattle.t1_core.specs.Threads.{ThreadState, placed, placed_at, item_placed, acknowledged}
+use Rattle.t1_core.specs.Threads.{ThreadState, placed_at, item_placed, acknowledged}
 use Rattle.t1_core_rule.specs.Outs.{store_request, stores_out, read_out, outs, numbers_of, track_of, IsEntryOf, AreEntriesOf}
-use Rattle.t1_core_rule.specs.Replays.{FollowsIn, FollowsSoFar}
-use Rattle.t1_core_rule.specs.Fitting.{IsFittingThread}
+use Rattle.t1_core_rule.specs.Replays.{FollowsIn}
 use Rattle.t1_core_rule.proofs.Moves.{class_store, class_store_not}
 use Rattle.t1_core_rule.proofs.Taken.{time_more}
 use Rattle.t1_core_rule.proofs.Replays.{bare, bare_placed}
-use Rattle.t1_core_rule.proofs.Answers.{IsItemOf, IsStoredBy}
+use Rattle.t1_core_rule.proofs.Answers.{IsItemOf}
 use Rattle.t1_core_rule.proofs.Came as came
 use Rattle.t1_core_rule.proofs.Came.{IsCome, comes_now}
 
@@ -170,7 +168,7 @@ module _ (number ram clock budget : ℕ) (from : Strand) (received : List Packet
     keeps = λ k y n seen h h_how.
         placed_has_other t.items e.item how k y
         (λ q. (let same : y ≡ o.item = one_item t.items e.item y o.item (subst (λ (m : ℕ). HasItem t.items m y) q h) o.has in
-          let clash : Unplaced ≡ Commit n seen = sym o.free ∙ (ap (λ (v : Item). v.how) (sym same) ∙ h_how) in cc)) h;
+        let clash : Unplaced ≡ Commit n seen = sym o.free ∙ (ap (λ (v : Item). v.how) (sym same) ∙ h_how) in cc)) h;
   }
 
   is_u : acknowledged t e how ≡ u

@@ -1,8 +1,7 @@
 -- A proper reply to what a strand has out: what it does to the strand and to the caches.
-use Rattle.std.proofs.Common.{◌≡◌, ◌⊎◌, ◌≤◌, ◌<◌, ℕ, ◌+◌, ◌*◌, ◌^◌, ◌==◌, ◌&&◌, Bool, true, false, List, [], ◌∷◌, ◌++◌, length, map, drop, take, set, Option, Some, None, refl, ap, sym, ◌∙◌, subst, inl, inr, suc, if◌then◌else◌}
+use Rattle.std.proofs.Common.{◌≡◌, ◌⊎◌, ◌<◌, ℕ, ◌*◌, ◌^◌, ◌==◌, ◌&&◌, Bool, true, false, List, [], ◌∷◌, ◌++◌, length, take, Option, Some, None, refl, ap, sym, ◌∙◌, subst, inl, inr, if◌then◌else◌}
 use Rattle.std.specs.List.{slice_get}
-use Rattle.std.proofs.lemmas.Bool.{cases_Bool, eq-eqb}
-use mathlib.Core.List.{append-nil}
+use Rattle.std.proofs.lemmas.Bool.{cases_Bool}
 use Rattle.t1_shape.specs.Shapes.Shape.{T1}
 use Rattle.t1_shape.specs.Slots.{Line}
 use Rattle.t1_decode.specs.Words.{insn_of}
@@ -21,7 +20,6 @@ use Rattle.t1_packet.specs.Ops.{op_addr, op_size, is_store}
 use Rattle.t1_sbuf.specs.declared.entry.Entry.{Entry}
 use Rattle.t1_l1.specs.Cache.{updated}
 use Rattle.t1_event.specs.declared.item.Item.{Item}
-use Rattle.t1_event.specs.declared.item.ItemKind.TheVariants as kind
 use Rattle.t1_event.specs.declared.item.How.{How}
 use Rattle.t1_event.specs.declared.item.How.TheVariants.{Commit}
 use Rattle.t1_event.specs.Kinds.{IsRead, IsAccess}
@@ -31,20 +29,18 @@ use Rattle.t1_event.specs.Records.{op_of}
 use Rattle.t1_joint.specs.Parts.{answers}
 use Rattle.t1_joint.specs.Proper.{IsReplyWay, IsProperReply}
 use Rattle.t1_joint.specs.Replay.{Bounds}
-use Rattle.t1_joint.specs.Follows.{HasBegun}
 use Rattle.t1_strand_order.specs.Allowed.{IsLike}
-use Rattle.t1_strand_order.proofs.Events.{like_read}
 use Rattle.t1_core.specs.declared.phase.Phase.{Phase}
 use Rattle.t1_core.specs.declared.phase.Phase.TheVariants as phase
 use Rattle.t1_core.specs.Stores.{AreSent, store_op}
-use Rattle.t1_core.specs.Threads.{ThreadState, thread_need, next_phase, placed, unit_done, word_came, read_item, value_came, op_for, item_placed, acknowledged}
+use Rattle.t1_core.specs.Threads.{ThreadState, thread_need, next_phase, placed, unit_done, word_came, read_item, value_came, op_for, acknowledged}
 use Rattle.t1_core.specs.Takes.{fill_with, accepts, Answered, answered_read, answered_store, thread_answer}
 use Rattle.t1_core_rule.specs.Outs.{store_request, stores_out, read_out, outs, asked_of}
-use Rattle.t1_core_rule.specs.Replays.{IsReading, IsAsking, FollowsIn, FollowsSoFar}
+use Rattle.t1_core_rule.specs.Replays.{IsReading, FollowsIn, FollowsSoFar}
 use Rattle.t1_core_rule.specs.Fitting.{cache_with}
-use Rattle.t1_core_rule.proofs.Execs.{next_asked, next_reads}
+use Rattle.t1_core_rule.proofs.Pieces.{next_asked, next_reads}
 use Rattle.t1_core_rule.proofs.Kills.{fetch_fill, load_fill, store_fill, accepted}
-use Rattle.t1_core_rule.proofs.Replays.{bare, FitsNeed, word_follows, value_follows}
+use Rattle.t1_core_rule.proofs.Replays.{FitsNeed, word_follows, value_follows}
 
 -- the item of an access that a reply answers
 pub record IsItemOf (n : ℕ) (r : ReplyData) (y : Item) : Type 0 where

@@ -1,14 +1,10 @@
 -- No exec changes the units that a strand may run.
-use Rattle.std.proofs.Common.{◌≡◌, ℕ, Bool, true, false, List, [], ◌∷◌, length, Option, Some, None, refl, inl, inr, nat_lt}
+use Rattle.std.proofs.Common.{◌≡◌, ℕ, Bool, true, false, Option, Some, None, refl, inl, inr}
 use Rattle.std.proofs.lemmas.Bool.{cases_Bool}
 use Rattle.t1_shape.specs.Shapes.Shape.{T1}
-use Rattle.t1_space.specs.Places.{is_io}
 use Rattle.t1_state.specs.Interrupts.{due_of}
-use Rattle.t1_exec.specs.declared.need.Need.{Need}
-use Rattle.t1_exec.specs.declared.need.Need.TheVariants as need
 use Rattle.t1_packet.specs.declared.op.Op.{Op}
 use Rattle.t1_packet.specs.Ops.{op_dest}
-use Rattle.t1_sbuf.specs.declared.entry.Entry.{Entry}
 use Rattle.t1_l1.specs.Cache.{CacheState, read_of}
 use Rattle.t1_joint.specs.Replay.{is_fetchable}
 use Rattle.t1_core.specs.declared.asker.Asker.{Asker}

@@ -1,6 +1,5 @@
 -- The lines of a core's caches hold bytes.
-use Rattle.std.proofs.Common.{◌≡◌, ◌≢◌, ◌⊎◌, ◌<◌, ◌≤◌, ℕ, zero, suc, ◌+◌, ◌*◌, ◌/◌, ◌%◌, Bool, true, false, List, [], ◌∷◌, take, set, get_or, replicate, Option, Some, None, refl, ap, sym, ◌∙◌, subst, inl, inr, arith, if◌then◌else◌}
-use Rattle.std.proofs.lemmas.Bool.{cases_Bool}
+use Rattle.std.proofs.Common.{◌≡◌, ℕ, zero, suc, ◌+◌, ◌%◌, Bool, true, false, List, [], ◌∷◌, take, set, get_or, Option, Some, None, refl, subst, inl, inr, arith, if◌then◌else◌}
 use Rattle.t1_num.specs.MemoryLaws.{AreBytes}
 use Rattle.t1_num.proofs.MemoryLaws.{bytes_stay}
 use Rattle.t1_shape.specs.Shapes.Shape.{T1}

@@ -1,5 +1,5 @@
 -- Each strand after a proper packet: one that is not answered, and one whose read is answered.
-use Rattle.std.proofs.Common.{◌≡◌, ◌≢◌, ◌⊎◌, ◌≤◌, ◌<◌, ℕ, ◌+◌, Bool, true, false, List, [], ◌∷◌, ◌++◌, length, Option, Some, None, refl, ap, sym, ◌∙◌, subst, inl, inr, arith}
+use Rattle.std.proofs.Common.{◌≡◌, ◌⊎◌, ◌≤◌, ℕ, ◌+◌, Bool, true, false, List, [], ◌∷◌, ◌++◌, length, Some, refl, ap, sym, ◌∙◌, subst, inl, inr, arith}
 use mathlib.Core.List.{append-nil}
 use Rattle.t1_shape.specs.Shapes.Shape.{T1}
 use Rattle.t1_state.specs.declared.strand.Strand.{Strand}
@@ -7,10 +7,8 @@ use Rattle.t1_packet.specs.declared.packet.Packet.{Packet}
 use Rattle.t1_packet.specs.Data.{RequestData, ReplyData}
 use Rattle.t1_packet.specs.Ops.{is_store}
 use Rattle.t1_event.specs.declared.item.Item.{Item}
-use Rattle.t1_event.specs.declared.item.How.{How}
 use Rattle.t1_event.specs.declared.item.How.TheVariants.{Commit}
 use Rattle.t1_event.specs.Times.{at_of, index_of}
-use Rattle.t1_joint.specs.Lists.{IsIn}
 use Rattle.t1_joint.specs.Parts.{answers}
 use Rattle.t1_joint.specs.Proper.{IsTime}
 use Rattle.t1_joint.specs.Waits.{HasItem}
@@ -28,7 +26,7 @@ use Rattle.t1_received.specs.Caches.{slots_by}
 use Rattle.t1_received.proofs.Lists.{in_left, in_last}
 use Rattle.t1_received.proofs.Packets.{caches_follow_packets}
 use Rattle.t1_core.specs.Threads.{ThreadState}
-use Rattle.t1_core_rule.specs.Outs.{stores_out, read_out, outs, track_of, AreEntriesOf}
+use Rattle.t1_core_rule.specs.Outs.{stores_out, outs, track_of}
 use Rattle.t1_core_rule.specs.Fitting.{IsFittingThread}
 use Rattle.t1_core_rule.proofs.Moves.{class_read, class_not, entries_push}
 use Rattle.t1_core_rule.proofs.Taken.{time_more}
@@ -153,8 +151,11 @@ module _ (number ram clock budget : ℕ) (from : Strand) (received : List Packet
                     let at : at_of a.item.how ≡ r.seen = ap at_of a.is.how in
                     subst (λ (v : Item). IsTime longer (at_of v.how)) q.1 (subst (λ (m : ℕ). IsTime longer m) (sym at) (time_more received p r.seen sent))
               ];
-          way = (f.way.0, (let same : stores_out number r.strand u.stores u.times ≡ stores_out number r.strand t.stores t.times = rw (a.stores, a.times) refl in
-              subst (λ (rs : List RequestData). GoTo T1 f.way.0 rs) (sym same) f.way.1));
+          way = (
+            f.way.0,
+            (let same : stores_out number r.strand u.stores u.times ≡ stores_out number r.strand t.stores t.times = rw (a.stores, a.times) refl in
+                subst (λ (rs : List RequestData). GoTo T1 f.way.0 rs) (sym same) f.way.1),
+          );
           came = λ k n seen y h how.
               elim (split_item k y h) [
                 | inl q ↦ old_come r.strand t f k n seen y q how

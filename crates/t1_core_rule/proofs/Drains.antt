@@ -1,30 +1,27 @@
 -- What a drain does to a strand. Only this file knows which store may be sent next: the oldest, where none is out.
-use Rattle.std.proofs.Common.{◌≡◌, ◌⊎◌, ℕ, ◌&&◌, not, Bool, true, false, List, [], ◌∷◌, ◌++◌, length, Option, Some, None, refl, ap, sym, ◌∙◌, subst, inl, inr}
+use Rattle.std.proofs.Common.{◌≡◌, ℕ, Bool, true, false, List, [], ◌∷◌, ◌++◌, length, Option, Some, None, refl, ap, sym, ◌∙◌, subst, inl, inr}
 use Rattle.std.proofs.lemmas.Bool.{cases_Bool}
 use Rattle.t1_shape.specs.Shapes.Shape.{T1}
 use Rattle.t1_packet.specs.declared.cache.Cache.{Cache}
 use Rattle.t1_packet.specs.Caches.{filled_line}
 use Rattle.t1_packet.specs.Data.{RequestData}
-use Rattle.t1_packet.specs.Ops.{op_dest, asked_way}
+use Rattle.t1_packet.specs.Ops.{op_dest}
 use Rattle.t1_sbuf.specs.declared.entry.Entry.{Entry}
-use Rattle.t1_sbuf.specs.Entries.{are_unsent, next_unsent, next_to_send_of, sent_next}
+use Rattle.t1_sbuf.specs.Entries.{are_unsent, next_to_send_of, sent_next}
 use Rattle.t1_l1.specs.Cache.{CacheState}
-use Rattle.t1_event.specs.declared.item.Item.{Item}
-use Rattle.t1_joint.specs.Lists.{IsIn}
 use Rattle.t1_joint.specs.Rows.{Caches}
 use Rattle.t1_strand_order.specs.Tracks.{Send}
 use Rattle.t1_received.specs.Requests.{of_class, GoTo}
 use Rattle.t1_core.specs.declared.asker.Asker.{Asker}
-use Rattle.t1_core.specs.declared.phase.Phase.{Phase}
 use Rattle.t1_core.specs.declared.answers.Drained.{Drained}
 use Rattle.t1_core.specs.declared.answers.Drained.TheVariants as drained
 use Rattle.t1_core.specs.Stores.{AreSent, store_op}
 use Rattle.t1_core.specs.Threads.{ThreadState, store_sent}
 use Rattle.t1_core.specs.Steps.{ThreadDrained, has_room, request_of, stays, drain_next, drain_stores, thread_drain}
 use Rattle.t1_core_rule.specs.Histories.{drained_by}
-use Rattle.t1_core_rule.specs.Outs.{store_request, stores_out, read_out, outs, numbers_of, track_of, AreEntriesOf}
+use Rattle.t1_core_rule.specs.Outs.{store_request, stores_out, read_out, outs, numbers_of, AreEntriesOf}
 use Rattle.t1_core_rule.specs.Steady.{AreGoodEntries}
-use Rattle.t1_core_rule.proofs.Moves.{IsFresh, IsReady, IsRight, IsMove, same_move, class_store, class_store_not}
+use Rattle.t1_core_rule.proofs.Moves.{IsFresh, IsMove, same_move, class_store, class_store_not}
 use mathlib.Core.List.{append-nil}
 
 -- ---- which store is sent

@@ -1,5 +1,5 @@
 -- What an exec does to a strand.
-use Rattle.std.proofs.Common.{◌≡◌, ◌⊎◌, ◌≤◌, ◌<◌, ℕ, ◌+◌, ◌%◌, ◌==◌, ◌&&◌, Bool, true, false, List, [], ◌∷◌, ◌++◌, length, map, Option, Some, None, refl, ap, sym, ◌∙◌, subst, inl, inr, arith, nat_lt, bit_and}
+use Rattle.std.proofs.Common.{◌≡◌, ◌⊎◌, ◌≤◌, ◌<◌, ℕ, ◌+◌, ◌%◌, ◌==◌, Bool, true, false, List, [], ◌∷◌, ◌++◌, length, Option, Some, None, refl, ap, sym, ◌∙◌, subst, inl, inr, arith, nat_lt}
 use Rattle.std.proofs.lemmas.Bool.{cases_Bool, eqb-true, ltb-true, and_parts}
 use Rattle.std.proofs.lemmas.List.{map-append, length-map}
 use mathlib.Core.List.{append-nil}
@@ -9,13 +9,9 @@ use Rattle.t1_shape.specs.Slots.{victim_of}
 use Rattle.t1_space.specs.Places.{is_io}
 use Rattle.t1_decode.specs.Words.{insn_of}
 use Rattle.t1_state.specs.declared.strand.Strand.{Strand}
-use Rattle.t1_state.specs.declared.strand.Entered.{Entered}
-use Rattle.t1_state.specs.declared.strand.Entered.TheVariants as entry
-use Rattle.t1_state.specs.Interrupts.{due_of}
 use Rattle.t1_state.specs.Traps.{entered, entered_by}
 use Rattle.t1_exec.specs.declared.need.Need.{Need}
 use Rattle.t1_exec.specs.declared.need.Need.TheVariants as need
-use Rattle.t1_exec.specs.declared.need.AtomicOp.{AtomicOp}
 use Rattle.t1_exec.specs.declared.need.AtomicOp.TheVariants.{Swap, Cas}
 use Rattle.t1_exec.specs.Needs.{need_of}
 use Rattle.t1_exec.specs.Meanings.{after_of}
@@ -33,18 +29,15 @@ use Rattle.t1_sbuf.specs.Looks.{look_of}
 use Rattle.t1_l1.specs.Cache.{CacheState, ArePointers, read_of, victim_at}
 use Rattle.t1_l1.proofs.Pointers.{victim_below}
 use Rattle.t1_event.specs.declared.item.Item.{Item}
-use Rattle.t1_event.specs.declared.item.ItemKind.TheVariants as kind
 use Rattle.t1_event.specs.declared.item.How.{How}
 use Rattle.t1_event.specs.declared.item.How.TheVariants.{Unplaced, Forward, Hit, Commit}
 use Rattle.t1_event.specs.Kinds.{IsRead, IsWrite}
-use Rattle.t1_event.specs.Items.{IsBarrier, IsIo, fetch_item, load_item, store_item, membar_item, flush_item}
-use Rattle.t1_joint.specs.Lists.{IsIn}
+use Rattle.t1_event.specs.Items.{fetch_item, load_item, store_item}
 use Rattle.t1_joint.specs.Replay.{fetch_trap, is_fetchable}
-use Rattle.t1_joint.specs.Waits.{HasItem}
-use Rattle.t1_joint.specs.Rows.{Caches, LoadRow, RowIn}
-use Rattle.t1_joint.specs.CoreRule.{IsSized, IsAsked}
+use Rattle.t1_joint.specs.Rows.{Caches, LoadRow}
+use Rattle.t1_joint.specs.CoreRule.{IsAsked}
 use Rattle.t1_joint.proofs.Needs.{IsShapedNeed, need_shaped}
-use Rattle.t1_strand_order.specs.Tracks.{Asked, Track, Event, Read, Fence, Push, Ask}
+use Rattle.t1_strand_order.specs.Tracks.{Event, Read, Fence, Push, Ask}
 use Rattle.t1_strand_order.specs.Places.{AskedRow}
 use Rattle.t1_strand_order.proofs.Items.{not_true, has_push, push_has, push_last}
 use Rattle.t1_core.specs.declared.asker.Asker.{Asker}
@@ -53,70 +46,20 @@ use Rattle.t1_core.specs.declared.phase.Phase.TheVariants as phase
 use Rattle.t1_core.specs.declared.answers.Wait.{Wait}
 use Rattle.t1_core.specs.declared.answers.Wait.TheVariants as wait
 use Rattle.t1_core.specs.declared.plan.Plan.{Plan}
-use Rattle.t1_core.specs.declared.plan.Plan.TheVariants as plan
 use Rattle.t1_core.specs.Stores.{AreSent}
-use Rattle.t1_core.specs.Threads.{ThreadState, word_of, thread_need, next_phase, placed, unit_done, halted, entry_phase, trapped, word_came, load_came, read_item, stored, op_for, in_phase}
-use Rattle.t1_core.specs.Steps.{ThreadActed, moved, waits, is_fence, if_empty, plan_look, plan_of, has_room, request_of, asked, asked_fetch, asked_data, exec_fetch, exec_begin, exec_look, exec_plan, exec_phase, thread_exec}
+use Rattle.t1_core.specs.Threads.{ThreadState, thread_need, next_phase, placed, unit_done, entry_phase, trapped, word_came, load_came, read_item, stored, op_for}
+use Rattle.t1_core.specs.Steps.{ThreadActed, moved, waits, if_empty, plan_look, has_room, request_of, asked, asked_fetch, asked_data, exec_fetch, exec_begin, exec_look, exec_plan}
 use Rattle.t1_core_rule.specs.Histories.{asked_by}
 use Rattle.t1_received.specs.Requests.{of_class, GoTo}
 use Rattle.t1_event.specs.Times.{at_of}
-use Rattle.t1_core_rule.specs.Outs.{store_request, stores_out, read_out, outs, asked_of, numbers_of, track_of, IsEntryOf, AreEntriesOf}
+use Rattle.t1_core_rule.specs.Outs.{stores_out, read_out, outs, asked_of, numbers_of}
 use Rattle.t1_core_rule.specs.Replays.{IsReading}
-use Rattle.t1_core_rule.specs.Steady.{IsGoodEntry, AreGoodEntries, IsCache}
+use Rattle.t1_core_rule.specs.Steady.{IsGoodEntry, IsCache}
 use Rattle.t1_core_rule.specs.Fitting.{cache_with}
 use Rattle.t1_core_rule.proofs.Lines.{got_line, is_missing}
-use Rattle.t1_core_rule.proofs.Looks.{none_held, none_overlaps, forwarded}
-use Rattle.t1_core_rule.proofs.Moves.{IsMadeNow, IsFresh, IsReady, IsRight, IsMove, io_bits, io_true, class_not, class_read, outs_same, same_move, entries_push}
-
--- ---- pieces
-
-pub size_some : (size : ℕ) → IsSize size → 0 < size
-size_some size s = elim s [ inl e ↦ omega (arith, e) | inr (inl e) ↦ omega (arith, e) | inr (inr (inl e)) ↦ omega (arith, e) | inr (inr (inr e)) ↦ omega (arith, e) ]
-
-pub next_reads : (core strand ram : ℕ) (s : Strand) (k u b : ℕ) → read_out core strand ram s k (next_phase u b) ≡ []
-next_reads core strand ram s k u b = elim (cases_Bool (u == b)) [ inl e ↦ rw e refl | inr e ↦ rw e refl ]
-
-pub entry_reads : (core strand ram : ℕ) (s : Strand) (k : ℕ) (e : Entered) (u b : ℕ) → read_out core strand ram s k (entry_phase e u b) ≡ []
-entry_reads core strand ram s k entry.Taken u b = next_reads core strand ram s k u b
-entry_reads core strand ram s k (entry.Fault number) u b = refl
-
-pub next_asked : (ram : ℕ) (s : Strand) (u b : ℕ) → asked_of ram s (next_phase u b) ≡ None
-next_asked ram s u b = elim (cases_Bool (u == b)) [ inl e ↦ rw e refl | inr e ↦ rw e refl ]
-
-pub entry_asked : (ram : ℕ) (s : Strand) (e : Entered) (u b : ℕ) → asked_of ram s (entry_phase e u b) ≡ None
-entry_asked ram s entry.Taken u b = next_asked ram s u b
-entry_asked ram s (entry.Fault number) u b = refl
-
-pub sent_push : (es : List Entry) (ts : List ℕ) (e : Entry) → e.sent ≡ false → AreSent es ts → AreSent (es ++ e ∷ []) ts
-sent_push [] [] e q f = (q, tt)
-sent_push [] (t ∷ ts) e q f = absurd f
-sent_push (d ∷ ds) [] e q f = (f.0, sent_push ds [] e q f.1)
-sent_push (d ∷ ds) (t ∷ ts) e q f = (f.0, sent_push ds ts e q f.1)
-
-pub good_push : (ram : ℕ) (es : List Entry) (e : Entry) → IsGoodEntry ram e → AreGoodEntries ram es → AreGoodEntries ram (es ++ e ∷ [])
-good_push ram [] e q g = (q, tt)
-good_push ram (d ∷ ds) e q g = (g.0, good_push ram ds e q g.1)
-
-pub stores_push : (core strand : ℕ) (es : List Entry) (ts : List ℕ) (e : Entry) → AreSent es ts → stores_out core strand (es ++ e ∷ []) ts ≡ stores_out core strand es ts
-stores_push core strand [] [] e f = refl
-stores_push core strand [] (t ∷ ts) e f = absurd f
-stores_push core strand (d ∷ ds) [] e f = refl
-stores_push core strand (d ∷ ds) (t ∷ ts) e f = ap (λ (rs : List RequestData). store_request core strand d t ∷ rs) (stores_push core strand ds ts e f.1)
-
-pub entries_more : (items : List Item) (es : List Entry) (e : Entry) → AreEntriesOf items es → IsEntryOf items e → AreEntriesOf items (es ++ e ∷ [])
-entries_more items [] e b n = (n, tt)
-entries_more items (d ∷ ds) e b n = (b.0, entries_more items ds e b.1 n)
-
-pub op_reads : (n : Need) (way : ℕ) → is_store (op_for n way) ≡ false
-op_reads (need.Load a z) way = refl
-op_reads (need.Atomic a z (Swap new)) way = refl
-op_reads (need.Atomic a z (Cas expect new)) way = refl
-op_reads need.Plain way = refl
-op_reads need.Halt way = refl
-op_reads (need.Trap number) way = refl
-op_reads (need.Store a z p) way = refl
-op_reads (need.Membar mask) way = refl
-op_reads need.Flush way = refl
+use Rattle.t1_core_rule.proofs.Looks.{none_overlaps, forwarded}
+use Rattle.t1_core_rule.proofs.Pieces.{size_some, next_reads, entry_reads, next_asked, entry_asked, sent_push, good_push, stores_push, entries_more, op_reads}
+use Rattle.t1_core_rule.proofs.Moves.{IsMadeNow, IsFresh, IsReady, IsRight, IsMove, io_true, class_not, class_read, outs_same, same_move, entries_push}
 
 module _ (x : Asker) (blocks : x.ram % 65536 ≡ 0) (icache dcache : CacheState) (ic : IsCache Icache icache) (dc : IsCache Dcache dcache) (caches : Caches) (pointers : Cache → List ℕ)
     (s : Strand) (es : List Entry) (ts : List ℕ) (xs : List Item) (budget : ℕ) where
@@ -182,9 +125,12 @@ module _ (x : Asker) (blocks : x.ram % 65536 ≡ 0) (icache dcache : CacheState)
             allowed = record { read = read; empty = elim free [ inl off ↦ inl off | inr none ↦ inr (ap numbers_of none) ] };
             placed = row r;
             entries = r.entries;
-            ways = λ v cache line h fills. elim h [ inl same ↦
-                (let fills' : filled_line cache o ≡ Some line = subst (λ (w : RequestData). filled_line cache w.op ≡ Some line) same fills in
-                ap (λ (w : RequestData). asked_way w.op) same ∙ way cache line fills' r) | inr none ↦ absurd none ];
+            ways = λ v cache line h fills. elim h [
+              | inl same ↦
+                  (let fills' : filled_line cache o ≡ Some line = subst (λ (w : RequestData). filled_line cache w.op ≡ Some line) same fills in
+                  ap (λ (w : RequestData). asked_way w.op) same ∙ way cache line fills' r)
+              | inr none ↦ absurd none
+            ];
           };
         })
         | inr e ↦ rw e (same_move x icache dcache caches pointers (at_phase p) (at_phase p) refl refl refl refl refl)
@@ -222,13 +168,13 @@ module _ (x : Asker) (blocks : x.ram % 65536 ≡ 0) (icache dcache : CacheState)
       item_move phase.Fetch (phase.Have word) s y (Read y) refl refl refl refl (inl refl)
       (record { no_commit = λ n seen c. (let clash : Hit x.time ≡ Commit n seen = c in cc); time = inr refl })
       (λ r.
-        let e : read_of (cache_with Icache (caches x.time Icache) (pointers Icache)) s.pc 4 ≡ Some word = subst (λ (c : CacheState). read_of c s.pc 4 ≡ Some word) r.icache_is is in
-        record {
-          allowed = record { read = refl; keeps = not_true; how = inl refl; free = refl };
-          placed = (fine.0, got_line Icache (caches x.time Icache) (pointers Icache) y r.icache_bytes (inr (inr (inl refl))) fine.1 e);
-          entries = entries_push xs y es r.entries;
-          ways = λ v cache line h. absurd h;
-        })
+      let e : read_of (cache_with Icache (caches x.time Icache) (pointers Icache)) s.pc 4 ≡ Some word = subst (λ (c : CacheState). read_of c s.pc 4 ≡ Some word) r.icache_is is in
+      record {
+        allowed = record { read = refl; keeps = not_true; how = inl refl; free = refl };
+        placed = (fine.0, got_line Icache (caches x.time Icache) (pointers Icache) y r.icache_bytes (inr (inr (inl refl))) fine.1 e);
+        entries = entries_push xs y es r.entries;
+        ways = λ v cache line h. absurd h;
+      })
   fetch_move None is fine =
       let way : ℕ = victim_at icache s.pc in
       asked_move phase.Fetch (phase.OutFetch way x.time) (op.Fetch s.pc way) (fetch_item s.pc 0) refl refl refl refl refl
@@ -347,22 +293,21 @@ module _ (x : Asker) (blocks : x.ram % 65536 ≡ 0) (icache dcache : CacheState)
       let f = load_fine word a z e in
       load_move word a z v (Hit x.time) (inl refl)
       (λ r.
-        let is' : read_of (cache_with Dcache (caches x.time Dcache) (pointers Dcache)) a z ≡ Some v = subst (λ (c : CacheState). read_of c a z ≡ Some v) r.dcache_is is in
-        (
-          in_ram a z f off,
-          none_overlaps _ xs es x.time r.kept.orderly r.entries (placed (load_item a z v) (Hit x.time)) clear,
-          got_line Dcache (caches x.time Dcache) (pointers Dcache) (placed (load_item a z v) (Hit x.time)) r.dcache_bytes f.0.size_is f.0.aligned is',
-        ))
+      let is' : read_of (cache_with Dcache (caches x.time Dcache) (pointers Dcache)) a z ≡ Some v = subst (λ (c : CacheState). read_of c a z ≡ Some v) r.dcache_is is in (
+        in_ram a z f off,
+        none_overlaps _ xs es x.time r.kept.orderly r.entries (placed (load_item a z v) (Hit x.time)) clear,
+        got_line Dcache (caches x.time Dcache) (pointers Dcache) (placed (load_item a z v) (Hit x.time)) r.dcache_bytes f.0.size_is f.0.aligned is',
+      ))
   look_move word a z None is e off clear =
       let f = load_fine word a z e in
       data_move word a (need.Load a z) e tt (λ b y q. (let g : a ≡ b = cc (q) in sym g)) (inl not_true)
       (λ r.
-        let is' : read_of (cache_with Dcache (caches x.time Dcache) (pointers Dcache)) a z ≡ None = subst (λ (c : CacheState). read_of c a z ≡ None) r.dcache_is is in
-        inl (
-          in_ram a z f off,
-          none_overlaps _ xs es x.time r.kept.orderly r.entries (record (load_item a z 0) { how = Commit 0 x.time }) clear,
-          is_missing Dcache (caches x.time Dcache) (pointers Dcache) (record (load_item a z 0) { how = Commit 0 x.time }) z is',
-        ))
+      let is' : read_of (cache_with Dcache (caches x.time Dcache) (pointers Dcache)) a z ≡ None = subst (λ (c : CacheState). read_of c a z ≡ None) r.dcache_is is in
+      inl (
+        in_ram a z f off,
+        none_overlaps _ xs es x.time r.kept.orderly r.entries (record (load_item a z 0) { how = Commit 0 x.time }) clear,
+        is_missing Dcache (caches x.time Dcache) (pointers Dcache) (record (load_item a z 0) { how = Commit 0 x.time }) z is',
+      ))
 
   pub plan_look_move : (word a z : ℕ) (l : Look) → look_of es a z ≡ l → need_of s (insn_of word) x.ram ≡ need.Load a z → is_io a ≡ false
       → Move (phase.Have word) (exec_plan x dcache (at_phase (phase.Have word)) (plan_look a z l))

@@ -1,22 +1,20 @@
 -- Every history of a core keeps what a core keeps where the packets that came are proper.
-use Rattle.std.proofs.Common.{◌≡◌, ◌≢◌, ◌⊎◌, ◌≤◌, ◌<◌, ℕ, ◌+◌, ◌*◌, ◌%◌, ◌==◌, Bool, true, false, List, [], ◌∷◌, ◌++◌, length, take, replicate, map, Option, Some, None, refl, ap, sym, ◌∙◌, subst, inl, inr, arith, zero, suc}
+use Rattle.std.proofs.Common.{◌≡◌, ◌≤◌, ◌<◌, ℕ, ◌+◌, ◌*◌, ◌%◌, Bool, true, false, List, [], ◌∷◌, ◌++◌, length, take, Option, Some, None, refl, ap, sym, subst, arith, zero, suc}
 use Rattle.std.specs.List.{slice_get}
 use Rattle.std.proofs.lemmas.Bool.{ne_eqb}
-use mathlib.Core.List.{append-nil}
 use Rattle.t1_shape.specs.Shapes.Shape.{T1}
 use Rattle.t1_state.specs.declared.strand.Strand.{Strand}
 use Rattle.t1_state.specs.Registers.{start_of, with_reg, blank_of}
 use Rattle.t1_packet.specs.declared.cache.Cache.{Cache}
 use Rattle.t1_packet.specs.declared.cache.Cache.TheVariants.{Dcache, Icache}
 use Rattle.t1_packet.specs.Caches.{layout, width}
-use Rattle.t1_packet.specs.declared.packet.Packet.{Packet}
-use Rattle.t1_packet.specs.Data.{RequestData, ReplyData}
-use Rattle.t1_l1.specs.Cache.{CacheState, empty_cache}
+use Rattle.t1_packet.specs.Data.{RequestData}
+use Rattle.t1_l1.specs.Cache.{empty_cache}
 use Rattle.t1_event.specs.declared.item.Item.{Item}
 use Rattle.t1_event.specs.Items.{reads_of}
 use Rattle.t1_event.specs.Posts.{no_lines, no_pointers}
 use Rattle.t1_joint.specs.Lists.{IsIn}
-use Rattle.t1_joint.specs.Start.{Setup, start_in}
+use Rattle.t1_joint.specs.Start.{Setup}
 use Rattle.t1_joint.specs.Proper.{AreProper}
 use Rattle.t1_joint.specs.Waits.{HasItem}
 use Rattle.t1_joint.specs.Replay.{Bounds, Running}
@@ -24,11 +22,11 @@ use Rattle.t1_joint.specs.Follows.{StandsAt}
 use Rattle.t1_strand_order.specs.Laws.{one_at_a_time}
 use Rattle.t1_strand_order.proofs.Items.{has_below}
 use Rattle.t1_strand_order.proofs.Events.{kept_begun}
-use Rattle.t1_received.specs.Requests.{sent_to, of_class}
+use Rattle.t1_received.specs.Requests.{sent_to}
 use Rattle.t1_received.proofs.Sends.{sends_keep_proper}
 use Rattle.t1_received.proofs.Packets.{packets_keep_proper}
 use Rattle.t1_core.specs.Threads.{ThreadState}
-use Rattle.t1_core.specs.Steps.{CoreState, asker, thread_exec, exec_at, exec_of, thread_drain, drain_at, drain_of}
+use Rattle.t1_core.specs.Steps.{asker, exec_at, exec_of, drain_at, drain_of}
 use Rattle.t1_core.specs.Start.{first_thread, threads_from, new_core}
 use Rattle.t1_core_rule.specs.Histories.{History, Call, Exec, Drain, Take, asked_by, drained_by, after_call, after_calls, begun}
 use Rattle.t1_core_rule.specs.Outs.{outs_at}
@@ -85,7 +83,7 @@ start_fits : (w : Setup) (core : ℕ) → 0 < w.config.budget → IsFitting w (b
 unfolding new_core
 start_fits w core some =
     let first : (s : ℕ) (t : ThreadState) → slice_get (threads_from w.config w.image.entry (core * w.config.strands) w.config.strands) s ≡ Some t
-        → first_thread (start_at w core s) w.config.budget ≡ t = λ s t e. thread_is w.config w.image.entry (core * w.config.strands) w.config.strands s t e in
+    → first_thread (start_at w core s) w.config.budget ≡ t = λ s t e. thread_is w.config w.image.entry (core * w.config.strands) w.config.strands s t e in
     record {
       rest = λ d. [];
       are = λ d. refl;

@@ -1,5 +1,5 @@
 -- Exec and drain keep each strand its replay so far.
-use Rattle.std.proofs.Common.{◌≡◌, ◌⊎◌, ◌<◌, ℕ, ◌*◌, ◌^◌, ◌%◌, ◌+◌, ◌-◌, ◌/◌, ◌==◌, Bool, true, false, List, [], ◌∷◌, ◌++◌, length, map, Option, Some, None, refl, ap, sym, ◌∙◌, subst, inl, inr, nat_lt}
+use Rattle.std.proofs.Common.{◌≡◌, ◌<◌, ℕ, ◌*◌, ◌^◌, Bool, true, false, List, [], ◌∷◌, ◌++◌, length, Option, Some, None, refl, ap, sym, ◌∙◌, subst, inl, inr, nat_lt}
 use Rattle.std.proofs.lemmas.Bool.{cases_Bool}
 use mathlib.Core.List.{append-nil}
 use Rattle.t1_shape.specs.Shapes.Shape.{T1}
@@ -22,7 +22,7 @@ use Rattle.t1_l1.specs.Cache.{CacheState, read_of, victim_at}
 use Rattle.t1_event.specs.declared.item.Item.{Item}
 use Rattle.t1_event.specs.declared.item.How.{How}
 use Rattle.t1_event.specs.declared.item.How.TheVariants.{Forward, Hit}
-use Rattle.t1_event.specs.Items.{reads_of, fetch_item, load_item, store_item, membar_item, flush_item, unplaced}
+use Rattle.t1_event.specs.Items.{reads_of, fetch_item, store_item, membar_item, flush_item, unplaced}
 use Rattle.t1_joint.specs.Replay.{Bounds, Running, acted, met, is_fetchable}
 use Rattle.t1_joint.specs.Follows.{HasBegun}
 use Rattle.t1_core.specs.declared.asker.Asker.{Asker}
@@ -30,8 +30,8 @@ use Rattle.t1_core.specs.declared.phase.Phase.{Phase}
 use Rattle.t1_core.specs.declared.phase.Phase.TheVariants as phase
 use Rattle.t1_core.specs.declared.plan.Plan.{Plan}
 use Rattle.t1_core.specs.declared.plan.Plan.TheVariants as plan
-use Rattle.t1_core.specs.Threads.{ThreadState, thread_need, next_phase, placed, unit_done, halted, trapped, word_came, load_came, read_item, stored, op_for, in_phase}
-use Rattle.t1_core.specs.Steps.{moved, is_fence, if_empty, plan_look, plan_of, has_room, asked, asked_fetch, asked_data, exec_fetch, exec_begin, exec_look, exec_plan, exec_phase, thread_exec}
+use Rattle.t1_core.specs.Threads.{ThreadState, thread_need, next_phase, placed, unit_done, halted, trapped, word_came, load_came, read_item, stored, op_for}
+use Rattle.t1_core.specs.Steps.{is_fence, if_empty, plan_look, plan_of, has_room, asked, asked_fetch, asked_data, exec_fetch, exec_begin, exec_look, exec_plan, exec_phase, thread_exec}
 use Rattle.t1_core_rule.specs.Replays.{IsReading, IsBetween, IsFetching, IsAsking, FollowsIn, FollowsSoFar}
 use Rattle.t1_core_rule.proofs.Looks.{covers_fits}
 use Rattle.t1_core_rule.proofs.Replays.{bare, FitsNeed, word_follows, unit_follows, value_follows, trap_follows, halt_follows, interrupt_follows, no_fetch_follows}

@@ -1,17 +1,17 @@
 -- The kills and the fills of a packet, as the definitions of caches by packets have them.
-use Rattle.std.proofs.Common.{◌≡◌, ◌<◌, ℕ, ◌+◌, ◌*◌, ◌/◌, ◌^◌, ◌==◌, ◌&&◌, ◌||◌, nat_lt, nat_le, Bool, true, false, List, [], ◌∷◌, take, set, Option, Some, None, refl, ap, sym, ◌∙◌, subst, inl, inr, if◌then◌else◌}
+use Rattle.std.proofs.Common.{◌≡◌, ◌<◌, ℕ, ◌*◌, ◌^◌, ◌==◌, nat_lt, true, List, [], ◌∷◌, take, set, Option, Some, None, refl, ap, sym, ◌∙◌, inl, inr, if◌then◌else◌}
 use Rattle.std.proofs.lemmas.Bool.{cases_Bool, eq-eqb, lt-ltb}
 use Rattle.t1_shape.specs.Shapes.Shape.{T1}
 use Rattle.t1_shape.specs.Slots.{Line}
 use Rattle.t1_space.specs.Places.{is_io}
 use Rattle.t1_packet.specs.declared.cache.Cache.{Cache}
 use Rattle.t1_packet.specs.declared.cache.Cache.TheVariants.{Dcache, Icache}
-use Rattle.t1_packet.specs.Caches.{layout, is_kill_of, slot_killed, with_kills, with_answer, pointers_with_answer}
+use Rattle.t1_packet.specs.Caches.{is_kill_of, slot_killed, with_kills, with_answer, pointers_with_answer}
 use Rattle.t1_packet.specs.declared.op.Op.{Op}
 use Rattle.t1_packet.specs.declared.op.Op.TheVariants as op
 use Rattle.t1_packet.specs.Data.{KillData, ReplyData}
-use Rattle.t1_packet.specs.Ops.{op_addr, op_size}
-use Rattle.t1_l1.specs.Cache.{CacheState, filled, emptied, updated}
+use Rattle.t1_packet.specs.Ops.{op_size}
+use Rattle.t1_l1.specs.Cache.{filled, emptied, updated}
 use Rattle.t1_joint.specs.Proper.{IsReplyWay}
 use Rattle.t1_core.specs.Steps.{CoreState}
 use Rattle.t1_core.specs.Takes.{killed_by, killed, same_op, fits, is_way_for, accepts, fill_with}

@@ -23,3 +23,5 @@ pub mod Takes
 pub mod Fits
 pub mod Finds
 pub mod Rules
+pub mod Pieces
+pub mod Examples

@@ -1,9 +1,9 @@
 -- What a cache answers, in the words of the table of places.
-use Rattle.std.proofs.Common.{◌≡◌, ◌<◌, ◌≤◌, ℕ, ◌+◌, ◌-◌, ◌*◌, ◌/◌, ◌%◌, ◌^◌, zero, suc, List, [], ◌∷◌, get_or, Option, Some, None, refl, ap, sym, ◌∙◌, subst, arith}
+use Rattle.std.proofs.Common.{◌≡◌, ◌<◌, ℕ, ◌+◌, ◌-◌, ◌*◌, ◌%◌, ◌^◌, zero, suc, List, [], ◌∷◌, get_or, Option, Some, None, refl, ap, sym, ◌∙◌, subst, arith}
 use Rattle.t1_num.specs.Memory.{IsSize, byte_of, number_at}
 use Rattle.t1_num.proofs.MemoryLaws.{number_at_fits, byte_of_number_at}
 use Rattle.t1_shape.specs.Shapes.Shape.{T1}
-use Rattle.t1_shape.specs.Slots.{Layout, Line, tag, tags_of, at_slot, slot_of, first_slot}
+use Rattle.t1_shape.specs.Slots.{Line, tag, tags_of, at_slot, slot_of, first_slot}
 use Rattle.t1_shape.proofs.Slots.{Found, slot_some}
 use Rattle.t1_packet.specs.declared.cache.Cache.{Cache}
 use Rattle.t1_packet.specs.Caches.{layout, width, line_of}

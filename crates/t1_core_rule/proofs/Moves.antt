@@ -1,5 +1,5 @@
 -- A strand moves, and sends at most one request: what such a move has to show, and the moves that make no item.
-use Rattle.std.proofs.Common.{◌≡◌, ◌⊎◌, ◌≤◌, ◌<◌, ℕ, ◌+◌, ◌/◌, ◌%◌, ◌^◌, ◌==◌, ◌&&◌, Bool, true, false, List, [], ◌∷◌, ◌++◌, length, Option, Some, None, refl, ap, sym, ◌∙◌, subst, inl, inr, arith}
+use Rattle.std.proofs.Common.{◌≡◌, ◌⊎◌, ℕ, ◌/◌, ◌%◌, ◌^◌, ◌==◌, Bool, true, false, List, [], ◌∷◌, ◌++◌, length, Option, Some, None, refl, sym, ◌∙◌, subst, inl, inr, arith}
 use Rattle.std.proofs.lemmas.Bool.{cases_Bool, eq-eqb, eqb-true, and_parts}
 use mathlib.Core.List.{append-nil}
 use Rattle.t1_shape.specs.Shapes.Shape.{T1}
@@ -20,7 +20,7 @@ use Rattle.t1_joint.specs.Lists.{IsIn}
 use Rattle.t1_joint.specs.Waits.{HasItem}
 use Rattle.t1_joint.specs.Rows.{Caches}
 use Rattle.t1_joint.specs.CoreRule.{IsAsked}
-use Rattle.t1_strand_order.specs.Tracks.{Asked, Track, Event, after}
+use Rattle.t1_strand_order.specs.Tracks.{Track, Event, after}
 use Rattle.t1_strand_order.specs.Allowed.{IsAllowed}
 use Rattle.t1_strand_order.specs.Kept.{IsKept}
 use Rattle.t1_strand_order.specs.Places.{IsPlacedNow}
@@ -31,8 +31,8 @@ use Rattle.t1_received.proofs.Sorts.{class_of, class_one, class_none}
 use Rattle.t1_core.specs.declared.asker.Asker.{Asker}
 use Rattle.t1_core.specs.Stores.{AreSent}
 use Rattle.t1_core.specs.Threads.{ThreadState}
-use Rattle.t1_core_rule.specs.Outs.{store_request, stores_out, read_out, outs, asked_of, numbers_of, track_of, AreEntriesOf}
-use Rattle.t1_core_rule.specs.Steady.{IsGoodEntry, AreGoodEntries}
+use Rattle.t1_core_rule.specs.Outs.{stores_out, read_out, outs, asked_of, track_of, AreEntriesOf}
+use Rattle.t1_core_rule.specs.Steady.{AreGoodEntries}
 use Rattle.t1_core_rule.specs.Fitting.{cache_with, HasBytes}
 
 -- ---- at most one event

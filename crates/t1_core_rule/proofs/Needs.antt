@@ -1,5 +1,5 @@
 -- What an exec does to a strand, by its phase and the need of its word.
-use Rattle.std.proofs.Common.{◌≡◌, ◌⊎◌, ◌≤◌, ◌<◌, ℕ, ◌+◌, ◌%◌, ◌==◌, Bool, true, false, List, [], ◌∷◌, ◌++◌, length, Option, Some, None, refl, ap, sym, ◌∙◌, subst, inl, inr, nat_lt, bit_and}
+use Rattle.std.proofs.Common.{◌≡◌, ◌⊎◌, ◌<◌, ℕ, ◌%◌, ◌==◌, true, false, List, [], ◌∷◌, ◌++◌, length, refl, ap, sym, ◌∙◌, subst, inl, inr, nat_lt, bit_and}
 use Rattle.std.proofs.lemmas.Bool.{cases_Bool, eqb-true, ltb-true}
 use mathlib.Core.List.{append-nil}
 use Rattle.t1_shape.specs.Shapes.Shape.{T1}
@@ -22,7 +22,6 @@ use Rattle.t1_event.specs.declared.item.Item.{Item}
 use Rattle.t1_event.specs.declared.item.ItemKind.TheVariants as kind
 use Rattle.t1_event.specs.declared.item.How.TheVariants.{Unplaced, Commit}
 use Rattle.t1_event.specs.Times.{at_of}
-use Rattle.t1_event.specs.Kinds.{IsWrite}
 use Rattle.t1_event.specs.Items.{IsBarrier, membar_item, flush_item}
 use Rattle.t1_joint.specs.Replay.{is_fetchable}
 use Rattle.t1_joint.specs.Rows.{Caches, NoneHeldIn}
@@ -35,19 +34,17 @@ use Rattle.t1_core.specs.declared.asker.Asker.{Asker}
 use Rattle.t1_core.specs.declared.phase.Phase.{Phase}
 use Rattle.t1_core.specs.declared.phase.Phase.TheVariants as phase
 use Rattle.t1_core.specs.declared.answers.Wait.TheVariants as wait
-use Rattle.t1_core.specs.declared.plan.Plan.{Plan}
 use Rattle.t1_core.specs.declared.plan.Plan.TheVariants as plan
 use Rattle.t1_core.specs.Threads.{ThreadState, thread_need, next_phase, unit_done, halted, read_item}
 use Rattle.t1_event.specs.declared.trace.Ending.TheVariants as ending
 use Rattle.t1_core_rule.specs.Outs.{numbers_of}
 use Rattle.t1_core.specs.Steps.{ThreadActed, moved, is_fence, plan_of, exec_plan, exec_phase, thread_exec}
 use Rattle.t1_core_rule.specs.Histories.{asked_by}
-use Rattle.t1_core_rule.specs.Replays.{IsReading}
 use Rattle.t1_core_rule.specs.Steady.{IsGoodEntry, IsCache}
 use Rattle.t1_core_rule.proofs.Looks.{none_held}
 use Rattle.t1_core_rule.proofs.Moves.{IsReady, IsMove, io_bits, same_move, entries_push}
 use Rattle.t1_core_rule.proofs.Execs as execs
-use Rattle.t1_core_rule.proofs.Execs.{next_asked, next_reads}
+use Rattle.t1_core_rule.proofs.Pieces.{next_asked, next_reads}
 
 module _ (x : Asker) (blocks : x.ram % 65536 ≡ 0) (icache dcache : CacheState) (ic : IsCache Icache icache) (dc : IsCache Dcache dcache) (caches : Caches) (pointers : Cache → List ℕ)
     (s : Strand) (es : List Entry) (ts : List ℕ) (xs : List Item) (budget : ℕ) where
@@ -116,7 +113,7 @@ module _ (x : Asker) (blocks : x.ram % 65536 ≡ 0) (icache dcache : CacheState)
       elim (cases_Bool (is_io a)) [
         | inl f ↦ rw f (execs.empty_move x blocks icache dcache ic dc caches pointers s es ts xs budget word es (plan.Send a)
             (λ none. execs.data_move x blocks icache dcache ic dc caches pointers s es ts xs budget word a (need.Load a z) e tt (λ b y q. (let g : a ≡ b = cc (q) in sym g)) (inl not_true)
-              (λ r. inr (io_bits a f, none_are_held word none r))))
+            (λ r. inr (io_bits a f, none_are_held word none r))))
         | inr f ↦ rw f (execs.plan_look_move x blocks icache dcache ic dc caches pointers s es ts xs budget word a z (look_of es a z) refl e f)
       ]
   need_move word (need.Atomic a z o) e =
@@ -124,7 +121,7 @@ module _ (x : Asker) (blocks : x.ram % 65536 ≡ 0) (icache dcache : CacheState)
       let inside : a < x.ram = execs.below x blocks icache dcache ic dc caches pointers s es ts xs budget a z f.0.size_is f.1 in
       execs.empty_move x blocks icache dcache ic dc caches pointers s es ts xs budget word es (plan.Send a)
       (λ none. execs.data_move x blocks icache dcache ic dc caches pointers s es ts xs budget word a (need.Atomic a z o) e tt
-        (λ b y q. absurd (let clash : need.Atomic a z o ≡ need.Load b y = q in cc)) (inr none) (λ r. atomic_row o inside (none_are_held word none r)))
+      (λ b y q. absurd (let clash : need.Atomic a z o ≡ need.Load b y = q in cc)) (inr none) (λ r. atomic_row o inside (none_are_held word none r)))
     where
       atomic_row : (o : AtomicOp) → a < x.ram → NoneHeldIn xs (length xs) x.time → AskedRow T1 x.ram caches xs (read_item (need.Atomic a z o) 0) x.time
       atomic_row (Swap new) inside h = (inside, h)

@@ -1,5 +1,5 @@
 -- What the events of a strand's own unit do to its replay.
-use Rattle.std.proofs.Common.{◌≡◌, ◌<◌, ℕ, ◌==◌, ◌*◌, ◌^◌, Bool, true, false, List, [], ◌∷◌, ◌++◌, map, Option, Some, None, refl, ap, sym, ◌∙◌, subst, zero, suc, set, inl, inr, nat_lt, length}
+use Rattle.std.proofs.Common.{◌≡◌, ◌<◌, ℕ, ◌==◌, ◌*◌, ◌^◌, false, List, [], ◌∷◌, ◌++◌, map, Option, Some, None, refl, ap, sym, subst, zero, suc, set, inl, inr}
 use Rattle.std.specs.List.{slice_get}
 use Rattle.std.proofs.lemmas.List.{map-append}
 use Rattle.std.proofs.lemmas.Bool.{cases_Bool, lt-ltb}
@@ -19,11 +19,11 @@ use Rattle.t1_event.specs.declared.item.Item.{Item}
 use Rattle.t1_event.specs.declared.item.How.{How}
 use Rattle.t1_event.specs.declared.trace.Ending.TheVariants as ending
 use Rattle.t1_event.specs.Items.{fetch_item, reads_of, unplaced}
-use Rattle.t1_joint.specs.Replay.{Running, Done, Replay, Bounds, fetch_trap, entry_end, trapped, acted, with_value, met, is_fetchable}
+use Rattle.t1_joint.specs.Replay.{Running, Done, Replay, Bounds, fetch_trap, entry_end, trapped, acted, met, is_fetchable}
 use Rattle.t1_joint.specs.Follows.{StandsAt, HasBegun}
 use Rattle.t1_joint.proofs.Units.{unit_goes, word_begins, interrupt_goes, fetch_trap_goes, spent_stands}
 use Rattle.t1_core.specs.Threads.{placed, read_item, next_phase, entry_phase, placed_at, item_placed}
-use Rattle.t1_core_rule.specs.Replays.{IsReading, IsBetween, IsFetching, IsAsking, FollowsIn}
+use Rattle.t1_core_rule.specs.Replays.{IsBetween, IsFetching, FollowsIn}
 
 abbrev pub bare : List Item → List Item
 bare items = map unplaced items

@@ -1,7 +1,6 @@
 -- The rule of a core from what it keeps.
-use Rattle.std.proofs.Common.{◌≡◌, ◌⊎◌, ◌≤◌, ◌<◌, ℕ, ◌+◌, ◌*◌, ◌%◌, ◌==◌, Bool, true, false, List, [], ◌∷◌, ◌++◌, length, map, drop, get_or, Option, Some, None, refl, ap, sym, ◌∙◌, subst, inl, inr, arith}
+use Rattle.std.proofs.Common.{◌≡◌, ◌<◌, ℕ, ◌%◌, ◌==◌, Bool, true, false, List, length, map, drop, Option, Some, None, refl, ap, sym, ◌∙◌, subst, inl, inr}
 use Rattle.std.specs.List.{slice_get}
-use Rattle.std.proofs.lemmas.Bool.{cases_Bool}
 use Rattle.t1_shape.specs.Shapes.{Shape}
 use Rattle.t1_shape.specs.Shapes.Shape.{T1}
 use Rattle.t1_decode.specs.Words.{insn_of}
@@ -10,10 +9,8 @@ use Rattle.t1_exec.specs.declared.need.Need.{Need}
 use Rattle.t1_exec.specs.declared.need.Need.TheVariants as need
 use Rattle.t1_exec.specs.declared.need.AtomicOp.TheVariants.{Swap, Cas}
 use Rattle.t1_exec.specs.Needs.{need_of}
-use Rattle.t1_packet.specs.declared.cache.Cache.{Cache}
-use Rattle.t1_packet.specs.declared.packet.Packet.{Packet}
 use Rattle.t1_packet.specs.declared.op.Op.TheVariants as op
-use Rattle.t1_packet.specs.Data.{RequestData, ReplyData}
+use Rattle.t1_packet.specs.Data.{RequestData}
 use Rattle.t1_packet.specs.Ops.{op_dest, is_store}
 use Rattle.t1_elf.specs.declared.object.Image.{Image}
 use Rattle.t1_event.specs.declared.report.Config.{Config}
@@ -25,16 +22,15 @@ use Rattle.t1_event.specs.declared.trace.Trace.{Trace}
 use Rattle.t1_event.specs.Items.{unplaced}
 use Rattle.t1_event.specs.Times.{at_of, IsPlaced}
 use Rattle.t1_joint.specs.Lists.{IsIn, AreDistinct}
-use Rattle.t1_joint.specs.Start.{Setup, bounds_in}
+use Rattle.t1_joint.specs.Start.{Setup}
 use Rattle.t1_joint.specs.Parts.{Standing, Fetching, Has, Out, Ended, CorePart, strand_items, answered, unanswered}
-use Rattle.t1_joint.specs.Proper.{AreProper, l1_by}
+use Rattle.t1_joint.specs.Proper.{l1_by}
 use Rattle.t1_joint.specs.Waits.{HasItem, IsDoneBy, WaitsFor}
 use Rattle.t1_joint.specs.Rows.{FewAreHeldIn, RowIn}
 use Rattle.t1_joint.specs.Replay.{Bounds}
 use Rattle.t1_joint.specs.Follows.{HasBegun}
-use Rattle.t1_joint.specs.CoreRule.{IsMeant, IsAwaiting, IsReplay, ending_at, IsTraceSoFar, HasAnswered, IsOut, KeepsRule, IsCore}
-use Rattle.t1_strand_order.specs.Kept.{IsOrderly}
-use Rattle.t1_received.specs.Requests.{sent_to, is_of, of_class}
+use Rattle.t1_joint.specs.CoreRule.{IsAwaiting, IsReplay, ending_at, IsTraceSoFar, IsOut, KeepsRule, IsCore}
+use Rattle.t1_received.specs.Requests.{sent_to}
 use Rattle.t1_received.proofs.Lists.{filter_in}
 use Rattle.t1_received.proofs.Sorts.{own_class, pending_out, out_pending}
 use Rattle.t1_core.specs.declared.phase.Phase.{Phase}
@@ -42,13 +38,13 @@ use Rattle.t1_core.specs.declared.phase.Phase.TheVariants as phase
 use Rattle.t1_core.specs.Threads.{ThreadState, op_for}
 use Rattle.t1_core.specs.Ends.{trace_of, ending_of}
 use Rattle.t1_core_rule.specs.Histories.{History, Call}
-use Rattle.t1_core_rule.specs.Outs.{stores_out, read_out, outs, outs_at, numbers_of}
+use Rattle.t1_core_rule.specs.Outs.{read_out, outs, outs_at}
 use Rattle.t1_core_rule.specs.Parts.{standing_of, state_at, standing_at, waiting_at, sending_at, part_of}
-use Rattle.t1_core_rule.specs.Replays.{IsReading, FollowsIn, FollowsSoFar}
+use Rattle.t1_core_rule.specs.Replays.{IsReading, FollowsIn}
 use Rattle.t1_core_rule.specs.Steady.{IsSteady}
 use Rattle.t1_core_rule.specs.Fitting.{IsFittingThread, IsFitting, start_at}
 use Rattle.t1_core_rule.specs.Laws.{CoresKeepTheirRule, AreWhole, history_of}
-use Rattle.t1_core_rule.proofs.Finds.{items_at, trace_at, Stands, stands, there, one_thread, drop_front, distinct_filter, distinct_classes, stored_numbers, stores_distinct, ascends_to}
+use Rattle.t1_core_rule.proofs.Finds.{items_at, trace_at, stands, there, one_thread, drop_front, distinct_filter, distinct_classes, stored_numbers, stores_distinct, ascends_to}
 use Rattle.t1_core_rule.proofs.Walks.{requests_are_meant, traces_are_of_strands, history_steady}
 use Rattle.t1_core_rule.proofs.Fits.{history_fits}
 

@@ -1,27 +1,20 @@
 -- A strand moves and requests go out: where the packets are proper, the core goes on as it has to.
-use Rattle.std.proofs.Common.{◌≡◌, ◌≢◌, ◌⊎◌, ◌≤◌, ◌<◌, ℕ, ◌+◌, ◌*◌, ◌%◌, ◌^◌, Bool, true, false, List, [], ◌∷◌, ◌++◌, length, set, Option, Some, None, refl, ap, sym, ◌∙◌, subst, inl, inr, arith, append_assoc}
+use Rattle.std.proofs.Common.{◌≡◌, ℕ, List, ◌++◌, set, Option, Some, None, refl, ap, sym, ◌∙◌, subst, inl, inr, append_assoc}
 use Rattle.std.specs.List.{slice_get}
 use Rattle.std.proofs.lemmas.Bool.{cases_eq}
-use mathlib.Core.List.{append-nil}
 use Rattle.t1_shape.specs.Shapes.Shape.{T1}
-use Rattle.t1_state.specs.declared.strand.Strand.{Strand}
 use Rattle.t1_packet.specs.declared.cache.Cache.{Cache}
 use Rattle.t1_packet.specs.declared.cache.Cache.TheVariants.{Dcache, Icache}
-use Rattle.t1_packet.specs.declared.packet.Packet.{Packet}
 use Rattle.t1_packet.specs.Data.{RequestData, ReplyData}
 use Rattle.t1_packet.specs.Ops.{asked_way}
-use Rattle.t1_l1.specs.Cache.{CacheState}
 use Rattle.t1_event.specs.declared.item.Item.{Item}
-use Rattle.t1_event.specs.declared.item.How.{How}
 use Rattle.t1_event.specs.declared.item.How.TheVariants.{Commit}
-use Rattle.t1_event.specs.Times.{at_of}
-use Rattle.t1_joint.specs.Lists.{IsIn}
 use Rattle.t1_joint.specs.Start.{Setup}
 use Rattle.t1_joint.specs.Parts.{answered}
 use Rattle.t1_joint.specs.Proper.{IsTime, pointers_by, victim_by}
 use Rattle.t1_joint.specs.Waits.{HasItem}
 use Rattle.t1_joint.specs.Rows.{Caches}
-use Rattle.t1_strand_order.specs.Tracks.{Track, Event, after}
+use Rattle.t1_strand_order.specs.Tracks.{Track, Event}
 use Rattle.t1_strand_order.specs.Kept.{IsKept}
 use Rattle.t1_strand_order.specs.Places.{ArePlacedRightly}
 use Rattle.t1_strand_order.specs.Laws.{one_at_a_time}
@@ -38,7 +31,7 @@ use Rattle.t1_core_rule.specs.Outs.{outs_at, track_of}
 use Rattle.t1_core_rule.specs.Replays.{FollowsSoFar}
 use Rattle.t1_core_rule.specs.Steady.{IsSteady}
 use Rattle.t1_core_rule.specs.Fitting.{IsMadeBy, IsFittingThread, IsFitting, start_at}
-use Rattle.t1_core_rule.proofs.Moves.{after_if, IsAllowedIf, IsPlacedIf, IsMadeNow, IsReady, IsRight, IsMove}
+use Rattle.t1_core_rule.proofs.Moves.{after_if, IsAllowedIf, IsPlacedIf, IsReady, IsMove}
 use Rattle.t1_core_rule.proofs.Lists.{got_set, put_same, put_other, set_more}
 
 -- at most one event keeps the order and the places

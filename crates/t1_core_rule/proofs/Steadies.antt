@@ -1,29 +1,22 @@
 -- Each call keeps what a core keeps whatever packets come.
-use Rattle.std.proofs.Common.{◌≡◌, ◌≢◌, ◌⊎◌, ◌≤◌, ◌<◌, ℕ, ◌+◌, ◌-◌, ◌*◌, ◌%◌, ◌^◌, ◌==◌, ◌&&◌, ◌||◌, nat_lt, Bool, true, false, List, [], ◌∷◌, ◌++◌, length, set, drop, take, Option, Some, None, refl, ap, sym, ◌∙◌, subst, inl, inr, arith, suc, zero}
+use Rattle.std.proofs.Common.{◌≡◌, ◌<◌, ℕ, ◌%◌, List, [], ◌∷◌, ◌++◌, length, Option, Some, None, refl, sym, ◌∙◌, subst, inl, inr, arith, suc, zero}
 use Rattle.std.specs.List.{slice_get}
-use Rattle.std.proofs.lemmas.Bool.{cases_Bool, or_cases, eqb-true}
 use Rattle.std.proofs.lemmas.List.{length-set}
 use Rattle.t1_shape.specs.Shapes.Shape.{T1}
 use Rattle.t1_packet.specs.declared.cache.Cache.{Cache}
-use Rattle.t1_packet.specs.declared.cache.Cache.TheVariants.{Dcache, Icache}
-use Rattle.t1_packet.specs.Caches.{layout}
-use Rattle.t1_packet.specs.declared.packet.Packet.{Packet}
 use Rattle.t1_packet.specs.Data.{RequestData}
-use Rattle.t1_event.specs.declared.item.Item.{Item}
-use Rattle.t1_joint.specs.Lists.{IsIn}
 use Rattle.t1_joint.specs.Start.{Setup}
 use Rattle.t1_joint.specs.Proper.{IsTime}
 use Rattle.t1_joint.specs.CoreRule.{IsAsked}
 use Rattle.t1_joint.specs.Rows.{Caches}
-use Rattle.t1_received.proofs.Lists.{in_more, in_left, in_last}
+use Rattle.t1_received.proofs.Lists.{in_more}
 use Rattle.t1_core.specs.declared.asker.Asker.{Asker}
 use Rattle.t1_core.specs.Threads.{ThreadState}
-use Rattle.t1_core.specs.Stores.{AreSent}
-use Rattle.t1_core.specs.Steps.{CoreState, with_thread, asker, thread_exec, exec_at, exec_of, thread_drain, drain_at, drain_of}
+use Rattle.t1_core.specs.Steps.{with_thread, asker, thread_exec, exec_at, exec_of, thread_drain, drain_at, drain_of}
 use Rattle.t1_core_rule.specs.Histories.{History, asked_by, drained_by, after_exec, after_drain}
 use mathlib.Core.List.{append-nil}
-use Rattle.t1_core_rule.specs.Steady.{AreGoodEntries, IsCache, IsOwn, IsThread, IsSteady}
-use Rattle.t1_core_rule.proofs.Moves.{IsFresh, IsMove}
+use Rattle.t1_core_rule.specs.Steady.{AreGoodEntries, IsThread, IsSteady}
+use Rattle.t1_core_rule.proofs.Moves.{IsMove}
 use Rattle.t1_core_rule.proofs.Needs.{exec_move}
 use Rattle.t1_core_rule.proofs.Drains.{drain_move}
 use Rattle.t1_core_rule.proofs.Lists.{got_set, seen_more}

@@ -1,5 +1,5 @@
 -- A packet, whichever it is, keeps what a core keeps whatever packets come.
-use Rattle.std.proofs.Common.{◌≡◌, ◌≢◌, ◌⊎◌, ◌≤◌, ◌<◌, ℕ, ◌+◌, ◌-◌, ◌*◌, ◌%◌, ◌^◌, ◌==◌, ◌&&◌, ◌||◌, nat_lt, Bool, true, false, List, [], ◌∷◌, ◌++◌, length, set, drop, take, Option, Some, None, refl, ap, sym, ◌∙◌, subst, inl, inr, arith, suc, zero}
+use Rattle.std.proofs.Common.{◌≡◌, ◌⊎◌, ◌≤◌, ◌<◌, ℕ, ◌+◌, ◌-◌, ◌^◌, ◌==◌, ◌&&◌, ◌||◌, nat_lt, true, false, List, [], ◌∷◌, ◌++◌, length, set, drop, take, Option, Some, None, refl, ap, sym, ◌∙◌, subst, inl, inr, arith}
 use Rattle.std.specs.List.{slice_get}
 use Rattle.std.proofs.lemmas.Bool.{cases_Bool, or_cases, eqb-true, ltb-true, ltb-false}
 use Rattle.std.proofs.lemmas.List.{length-set}
@@ -9,15 +9,13 @@ use Rattle.t1_packet.specs.declared.cache.Cache.TheVariants.{Dcache, Icache}
 use Rattle.t1_packet.specs.Caches.{layout}
 use Rattle.t1_packet.specs.declared.packet.Packet.{Packet}
 use Rattle.t1_packet.specs.declared.op.Op.TheVariants as op
-use Rattle.t1_packet.specs.Data.{KillData, RequestData, ReplyData}
+use Rattle.t1_packet.specs.Data.{KillData, ReplyData}
 use Rattle.t1_packet.specs.Ops.{op_addr, is_store}
 use Rattle.t1_sbuf.specs.declared.entry.Entry.{Entry}
 use Rattle.t1_l1.specs.Cache.{CacheState, ArePointers, filled, emptied, updated}
 use Rattle.t1_l1.proofs.Pointers.{pointers_are_ways}
-use Rattle.t1_joint.specs.Lists.{IsIn}
 use Rattle.t1_joint.specs.Start.{Setup}
 use Rattle.t1_joint.specs.Proper.{IsTime}
-use Rattle.t1_joint.specs.CoreRule.{IsAsked}
 use Rattle.t1_received.proofs.Lists.{in_more, in_left, in_last}
 use Rattle.t1_core.specs.declared.phase.Phase.{Phase}
 use Rattle.t1_core.specs.declared.phase.Phase.TheVariants as phase
@@ -26,7 +24,7 @@ use Rattle.t1_core.specs.Threads.{ThreadState, thread_need, op_for, word_came, v
 use Rattle.t1_core.specs.Steps.{CoreState}
 use Rattle.t1_core.specs.Takes.{emptied_in, killed_in, killed_by, killed, accepts, fill_with, Answered, answered_read, answered_store, thread_answer, answered_at, answered, take_of}
 use Rattle.t1_core_rule.specs.Histories.{History, after_take}
-use Rattle.t1_core_rule.specs.Steady.{AreGoodEntries, IsCache, IsOwn, IsThread, IsSteady}
+use Rattle.t1_core_rule.specs.Steady.{AreGoodEntries, IsCache, IsThread, IsSteady}
 use Rattle.t1_core_rule.proofs.Lists.{got_set}
 
 -- ---- caches

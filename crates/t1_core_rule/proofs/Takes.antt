@@ -1,7 +1,7 @@
 -- A packet, where the packets that came are proper.
-use Rattle.std.proofs.Common.{◌≡◌, ◌≢◌, ◌⊎◌, ◌≤◌, ◌<◌, ℕ, ◌+◌, ◌-◌, ◌*◌, ◌^◌, ◌==◌, ◌||◌, nat_lt, Bool, true, false, List, [], ◌∷◌, ◌++◌, length, set, take, Option, Some, None, refl, ap, sym, ◌∙◌, subst, inl, inr, arith, suc, zero, if◌then◌else◌}
+use Rattle.std.proofs.Common.{◌≡◌, ◌≤◌, ◌<◌, ℕ, ◌+◌, ◌-◌, ◌^◌, ◌==◌, Bool, true, false, List, [], ◌∷◌, ◌++◌, length, set, take, Option, Some, None, refl, ap, sym, ◌∙◌, subst, inl, inr, arith}
 use Rattle.std.specs.List.{slice_get}
-use Rattle.std.proofs.lemmas.Bool.{cases_Bool, cases_eq, eq-eqb, ne_eqb, le-ltb}
+use Rattle.std.proofs.lemmas.Bool.{cases_Bool, eq-eqb, ne_eqb, le-ltb}
 use Rattle.t1_shape.specs.Shapes.Shape.{T1}
 use Rattle.t1_shape.specs.Slots.{Line, victim_of}
 use Rattle.t1_decode.specs.Words.{insn_of}
@@ -16,14 +16,11 @@ use Rattle.t1_packet.specs.Data.{RequestData, ReplyData}
 use Rattle.t1_packet.specs.Ops.{op_dest, is_store, asked_way}
 use Rattle.t1_packet.specs.Packets.{with_reply, pointers_with_reply, with_packet, pointers_with_packet}
 use Rattle.t1_l1.specs.Cache.{CacheState}
-use Rattle.t1_event.specs.declared.item.Item.{Item}
-use Rattle.t1_event.specs.declared.item.How.TheVariants.{Commit}
 use Rattle.t1_joint.specs.Lists.{IsIn}
 use Rattle.t1_joint.specs.Start.{Setup}
 use Rattle.t1_joint.specs.Parts.{answers, answered}
-use Rattle.t1_joint.specs.Proper.{IsTime, IsProperReply, AreProper, l1_by, pointers_by, victim_by}
+use Rattle.t1_joint.specs.Proper.{IsTime, AreProper, l1_by, pointers_by, victim_by}
 use Rattle.t1_received.specs.Requests.{sent_to, is_of, of_class, GoTo, answered_in}
-use Rattle.t1_received.specs.Laws.{ArePast}
 use Rattle.t1_received.proofs.Lists.{in_more, in_left, in_right, in_last, filter_in}
 use Rattle.t1_received.proofs.Sorts.{own_class, out_less, first_of_class, rest_less}
 use Rattle.t1_received.proofs.Packets.{ascend_last, caches_follow_packets}
@@ -40,7 +37,7 @@ use Rattle.t1_core_rule.specs.Fitting.{cache_with, HasBytes, IsMadeBy, IsFitting
 use Rattle.t1_core_rule.proofs.Lists.{got_set, put_same, set_less}
 use Rattle.t1_core_rule.proofs.Kills.{with_caches, killed_is}
 use Rattle.t1_core_rule.proofs.Bytes.{packet_bytes}
-use Rattle.t1_core_rule.proofs.Answers.{IsItemOf, AreAfter, IsReadBy, IsStoredBy, Answers, reads_in, answer_case}
+use Rattle.t1_core_rule.proofs.Answers.{Answers, reads_in, answer_case}
 use Rattle.t1_core_rule.proofs.Replays.{bare}
 use Rattle.t1_core_rule.proofs.Came.{IsCome, still, read_come}
 use Rattle.t1_core_rule.proofs.Acknowledged.{stored_come}

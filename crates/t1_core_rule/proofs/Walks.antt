@@ -1,18 +1,17 @@
 -- Every history of a core keeps what a core keeps whatever packets come.
-use Rattle.std.proofs.Common.{◌≡◌, ◌⊎◌, ◌≤◌, ◌<◌, ℕ, ◌+◌, ◌*◌, ◌%◌, ◌^◌, ◌==◌, ◌||◌, nat_lt, zero, suc, ◌-◌, Bool, true, false, List, [], ◌∷◌, ◌++◌, length, map, Option, Some, None, refl, ap, sym, ◌∙◌, subst, inl, inr, arith}
+use Rattle.std.proofs.Common.{◌≡◌, ◌≤◌, ◌<◌, ℕ, ◌+◌, ◌*◌, ◌%◌, ◌^◌, ◌==◌, ◌||◌, nat_lt, zero, suc, ◌-◌, true, false, List, [], ◌∷◌, length, Option, Some, None, refl, ap, sym, ◌∙◌, subst, inl, inr, arith}
 use Rattle.std.specs.List.{slice_get}
 use Rattle.std.proofs.lemmas.Bool.{cases_Bool, eqb-true, ltb-false}
 use Rattle.std.proofs.lemmas.List.{length-map}
 use Rattle.t1_shape.specs.Shapes.{Shape}
 use Rattle.t1_shape.specs.Shapes.Shape.{T1}
-use Rattle.t1_state.specs.declared.strand.Strand.{Strand}
 use Rattle.t1_packet.specs.declared.cache.Cache.{Cache}
 use Rattle.t1_packet.specs.declared.cache.Cache.TheVariants.{Dcache, Icache}
 use Rattle.t1_packet.specs.Caches.{layout, width}
 use Rattle.t1_packet.specs.declared.packet.Packet.{Packet}
-use Rattle.t1_packet.specs.Data.{RequestData, ReplyData}
+use Rattle.t1_packet.specs.Data.{RequestData}
 use Rattle.t1_packet.specs.Ops.{op_dest}
-use Rattle.t1_l1.specs.Cache.{CacheState, empty_cache}
+use Rattle.t1_l1.specs.Cache.{empty_cache}
 use Rattle.t1_l1.proofs.Pointers.{pointers_are_ways}
 use Rattle.t1_event.specs.declared.report.Config.{Config}
 use Rattle.t1_joint.specs.Lists.{IsIn}
@@ -22,7 +21,7 @@ use Rattle.t1_received.specs.Requests.{sent_to}
 use Rattle.t1_received.proofs.Lists.{filter_in}
 use Rattle.t1_core.specs.Threads.{ThreadState}
 use Rattle.t1_core.specs.Steps.{CoreState, exec_at, exec_of, drain_at, drain_of}
-use Rattle.t1_core.specs.Takes.{killed, answered, take_of}
+use Rattle.t1_core.specs.Takes.{take_of}
 use Rattle.t1_core.specs.Ends.{trace_of}
 use Rattle.t1_core.specs.Start.{first_thread, threads_from, new_core}
 use Rattle.t1_core_rule.specs.Histories.{History, Call, Exec, Drain, Take, after_call, after_calls, begun}

@@ -1,11 +1,14 @@
 -- The laws of a core.
-use Rattle.std.specs.Prelude.{ℕ, ◌≡◌, ◌%◌, ◌<◌, ◌≤◌, ◌⊎◌, List, [], ◌∷◌, length, Some}
-use Rattle.t1_shape.specs.Shapes.{Shape}
+use Rattle.std.specs.Prelude.{ℕ, ◌≡◌, ◌%◌, ◌<◌, ◌≤◌, ◌⊎◌, List, [], ◌∷◌, length, Some, None}
 use Rattle.t1_packet.specs.declared.packet.Packet.{Packet}
 use Rattle.t1_packet.specs.Data.{RequestData, ReplyData}
 use Rattle.t1_joint.specs.Lists.{IsIn}
 use Rattle.t1_joint.specs.Start.{Setup}
-use Rattle.t1_joint.specs.Proper.{IsTime}
+use Rattle.t1_shape.specs.Shapes.Shape.{T1}
+use Rattle.t1_packet.specs.declared.cache.Cache.TheVariants.{Dcache, Icache}
+use Rattle.t1_joint.specs.Proper.{IsTime, AreProper, l1_by, pointers_by}
+use Rattle.t1_received.specs.Requests.{sent_to}
+use Rattle.t1_core_rule.specs.Fitting.{cache_with}
 use Rattle.t1_joint.specs.CoreRule.{IsMeant, IsCore}
 use Rattle.t1_core_rule.specs.Histories.{History, Call, Exec, Drain, Take, after_call, after_calls, begun}
 use Rattle.t1_core_rule.specs.Parts.{part_of}
@@ -59,3 +62,22 @@ TracesAreOfStrands =
 abbrev pub CoresKeepTheirRule : Type 0
 CoresKeepTheirRule =
     (w : Setup) (core : ℕ) (calls : List Call) → IsWhole w → 0 < w.config.budget → AreWhole calls → IsCore w core (part_of w.shape (history_of w core calls))
+
+-- where the packets that came are proper, the core's caches are those of its packets
+pub record CachesAreOfPackets (core : ℕ) (h : History) : Type 0 where
+  pub dcache : h.core.dcache ≡ cache_with Dcache (l1_by T1 core h.received h.core.time Dcache) (pointers_by T1 h.received h.core.time Dcache)
+  pub icache : h.core.icache ≡ cache_with Icache (l1_by T1 core h.received h.core.time Icache) (pointers_by T1 h.received h.core.time Icache)
+
+abbrev pub CachesFollowPackets : Type 0
+CachesFollowPackets =
+    (w : Setup) (core : ℕ) (calls : List Call) → IsWhole w → 0 < w.config.budget → AreWhole calls
+    → AreProper T1 core (λ d. sent_to T1 d (history_of w core calls).sent) (history_of w core calls).received → CachesAreOfPackets core (history_of w core calls)
+
+-- a history whose packets are proper: one packet comes, with a kill
+abbrev pub example : ℕ → List Call
+example core = Take (record { index = 5; reply = None; kills = (record { core = core; cache = Dcache; set = 0; way = 0 }) ∷ [] }) ∷ []
+
+abbrev pub PacketsCanBeProper : Type 0
+PacketsCanBeProper =
+    (w : Setup) (core : ℕ)
+    → AreWhole (example core) × AreProper w.shape core (part_of w.shape (history_of w core (example core))).sent (history_of w core (example core)).received

@@ -1,5 +1,5 @@
 -- Each strand of a core is its replay so far.
-use Rattle.std.specs.Prelude.{ℕ, ◌≡◌, ◌==◌, true, false, List, map, Option, None}
+use Rattle.std.specs.Prelude.{ℕ, ◌≡◌, ◌==◌, true, false, List, map, None}
 use Rattle.t1_decode.specs.Words.{insn_of}
 use Rattle.t1_state.specs.declared.strand.Strand.{Strand}
 use Rattle.t1_state.specs.Interrupts.{due_of}

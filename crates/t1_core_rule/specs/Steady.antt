@@ -1,7 +1,6 @@
 -- What a core keeps whatever packets come.
 use Rattle.std.specs.Prelude.{ℕ, ◌≡◌, ◌≤◌, ◌<◌, ◌⊎◌, List, [], ◌∷◌, length, Some}
 use Rattle.std.specs.List.{slice_get}
-use Rattle.t1_num.specs.Memory.{IsSize}
 use Rattle.t1_shape.specs.Shapes.Shape.{T1}
 use Rattle.t1_packet.specs.declared.cache.Cache.{Cache}
 use Rattle.t1_packet.specs.declared.cache.Cache.TheVariants.{Dcache, Icache}
@@ -16,7 +15,6 @@ use Rattle.t1_joint.specs.Proper.{IsTime}
 use Rattle.t1_joint.specs.CoreRule.{IsSized, IsAsked, SeenAscends}
 use Rattle.t1_received.specs.Laws.{ArePast}
 use Rattle.t1_core.specs.Threads.{ThreadState}
-use Rattle.t1_core.specs.Steps.{CoreState}
 use Rattle.t1_core.specs.Stores.{AreSent}
 use Rattle.t1_core_rule.specs.Histories.{History}
 

@@ -1,5 +1,5 @@
 //! Laws of the histories of a core.
-ghost use Rattle.t1_core_rule.specs.Laws.{RequestsAreMeant, PacketsArePast, ClocksGoOn, TracesAreOfStrands, CoresKeepTheirRule};
+ghost use Rattle.t1_core_rule.specs.Laws.{RequestsAreMeant, PacketsArePast, ClocksGoOn, TracesAreOfStrands, CoresKeepTheirRule, CachesFollowPackets, PacketsCanBeProper};
 
 /// Whatever packets came, each request of a core is one that its destination may serve.
 pub fn requests_are_meant()
@@ -26,4 +26,14 @@ pub fn traces_are_of_strands()
 /// stand in program order where the table of places has them, and each strand is its replay so far.
 pub fn cores_keep_their_rule()
     ensures { CoresKeepTheirRule }
+{}
+
+/// Where the packets that came are proper, a core's caches are those of the packets below its time.
+pub fn caches_follow_packets()
+    ensures { CachesFollowPackets }
+{}
+
+/// Packets can be proper: a history in which a packet came.
+pub fn packets_can_be_proper()
+    ensures { PacketsCanBeProper }
 {}
