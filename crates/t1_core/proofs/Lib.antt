@@ -4,6 +4,8 @@ pub mod Values
 pub mod Quiet
 pub mod Begins
 pub mod Turning
+pub mod Holds
+pub mod Asks
 pub mod ReplayUnits
 pub mod ReplayBytes
 pub mod ReplaySteps

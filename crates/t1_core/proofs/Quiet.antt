@@ -1,5 +1,6 @@
 -- What waits changes nothing, and what is sent has room.
-use Rattle.std.proofs.Common.{◌≡◌, ◌<◌, ◌/◌, ◌%◌, arith, length, get_or, ℕ, zero, suc, Bool, true, false, List, [], ◌∷◌, set, Option, Some, None, refl, ap, sym, ◌∙◌, if◌then◌else◌}
+use Rattle.std.proofs.Common.{◌≡◌, ◌<◌, ◌/◌, ◌%◌, arith, length, get_or, ℕ, zero, suc, Bool, true, false, List, [], ◌∷◌, set, Option, Some, None, refl, ap, sym, ◌∙◌, subst, if◌then◌else◌}
+use Rattle.std.specs.Prelude.{IsSome}
 use Rattle.std.specs.List.{slice_get}
 use Rattle.t1_shape.specs.Shapes.Shape.{T1}
 use Rattle.t1_space.specs.Places.{is_io}
@@ -22,7 +23,7 @@ use Rattle.t1_core.specs.declared.answers.Drained.TheVariants as drained
 use Rattle.t1_core.specs.declared.plan.Plan.{Plan}
 use Rattle.t1_core.specs.declared.plan.Plan.TheVariants as plan
 use Rattle.t1_core.specs.Stores.{store_op}
-use Rattle.t1_core.specs.Threads.{ThreadState, thread_need}
+use Rattle.t1_core.specs.Threads.{ThreadState, thread_need, store_sent}
 use Rattle.t1_core.specs.Steps.{CoreState, ThreadActed, ThreadDrained, CoreDrained, with_thread, asker, has_room, asked, asked_fetch, asked_data, exec_fetch, exec_begin, exec_look, exec_plan, exec_phase, plan_of, thread_exec, exec_at, exec_of, stays, drain_next, drain_stores, thread_drain, drain_at, drain_of}
 use Rattle.t1_core.specs.Turns.{next_place, Turned, with_turns, turned_at, turn_of}
 use Rattle.t1_core.specs.Told.{HasRing, HasDrainRing, WaitsStill, DrainsStill, ActedAt}
@@ -133,25 +134,36 @@ exec_quiet c i room w h = still_from c (exec_of c i room).core (did.Waits w) (ex
 
 -- ---- drain
 
-pub record TellsDrain (room : ℕ) (t : ThreadState) (a : ThreadDrained) : Type 0 where
-  pub ring : HasDrainRing room a.did
+-- what is sent is the next store
+abbrev pub SendsNext : Asker → ThreadState → ThreadState → Drained → Type 0
+SendsNext x t after (drained.Sent d r) = IsSome (next_to_send_of t.stores) × (after ≡ store_sent t x.time)
+SendsNext x t after drained.Empty = Unit {0}
+SendsNext x t after drained.Out = Unit {0}
+SendsNext x t after (drained.NoRoom d) = Unit {0}
+
+pub record TellsDrain (x : Asker) (t : ThreadState) (a : ThreadDrained) : Type 0 where
+  pub ring : HasDrainRing x.room a.did
   pub still : DrainsStill t a.thread a.did
+  pub sends : SendsNext x t a.thread a.did
 
-drain_if : (b : Bool) (room : ℕ) (t : ThreadState) (y z : ThreadDrained) → (b ≡ true → TellsDrain room t y) → TellsDrain room t z → TellsDrain room t (if b then y else z)
-drain_if true room t y z p q = p refl
-drain_if false room t y z p q = q
+drain_if : (b : Bool) (x : Asker) (t : ThreadState) (y z : ThreadDrained) → (b ≡ true → TellsDrain x t y) → TellsDrain x t z → TellsDrain x t (if b then y else z)
+drain_if true x t y z p q = p refl
+drain_if false x t y z p q = q
 
-next_tells : (x : Asker) (t : ThreadState) (o : Option Entry) → TellsDrain x.room t (drain_next x t o)
-next_tells x t None = record { ring = tt; still = refl }
-next_tells x t (Some e) = drain_if (has_room x.room (op_dest T1 (store_op e))) x.room t _ _ (λ h. record { ring = (h, dest_below (store_op e)); still = tt }) (record { ring = tt; still = refl })
+next_tells : (x : Asker) (t : ThreadState) (o : Option Entry) → next_to_send_of t.stores ≡ o → TellsDrain x t (drain_next x t o)
+next_tells x t None is = record { ring = tt; still = refl; sends = tt }
+next_tells x t (Some e) is =
+    drain_if (has_room x.room (op_dest T1 (store_op e))) x t _ _
+    (λ h. record { ring = (h, dest_below (store_op e)); still = tt; sends = (subst IsSome (sym is) refl, refl) })
+    (record { ring = tt; still = refl; sends = tt })
 
-stores_tell : (x : Asker) (t : ThreadState) (es : List Entry) → TellsDrain x.room t (drain_stores x t es)
-stores_tell x t [] = record { ring = tt; still = refl }
-stores_tell x t (e ∷ es) = next_tells x t (next_to_send_of (e ∷ es))
+stores_tell : (x : Asker) (t : ThreadState) (es : List Entry) → t.stores ≡ es → TellsDrain x t (drain_stores x t es)
+stores_tell x t [] is = record { ring = tt; still = refl; sends = tt }
+stores_tell x t (e ∷ es) is = next_tells x t (next_to_send_of (e ∷ es)) (ap (λ (fs : List Entry). next_to_send_of fs) is)
 
-drained_tells : (x : Asker) (t : ThreadState) → TellsDrain x.room t (thread_drain x t)
+pub drained_tells : (x : Asker) (t : ThreadState) → TellsDrain x t (thread_drain x t)
 unfolding thread_drain
-drained_tells x t = stores_tell x t t.stores
+drained_tells x t = stores_tell x t t.stores refl
 
 core_drain : (c : CoreState) (i : ℕ) (t u : ThreadState) (d : Drained) → slice_get c.threads i ≡ Some t → DrainsStill t u d → DrainsStill c (with_thread c i u) d
 core_drain c i t u (drained.Sent d r) at s = tt
@@ -196,9 +208,10 @@ turn_none c room e = ap (λ (o : Option ℕ). turned_at c room o) e
 pub acted_turns : (c : CoreState) (room p : ℕ) (d : Did) (after : CoreState) → ActedAt c room p d after → after.turns ≡ c.turns
 acted_turns c room p d after a = ap (λ (k : CoreState). k.turns) a.core_is ∙ exec_turns c (get_or c.turns p 0) room
 
-pub turn_core : (c : CoreState) (room p : ℕ) (d : Did) (after : CoreState) → ActedAt c room p d after → with_turns after (moved_last c.turns p) ≡ (turn_of c room).core
+pub turn_core : (c : CoreState) (room p : ℕ) (d : Did) (after : CoreState) → ActedAt c room p d after → with_turns after (moved_last after.turns p) ≡ (turn_of c room).core
 turn_core c room p d after a =
-    rw (turn_some c room p a.first) (ap (λ (k : CoreState). with_turns k (moved_last c.turns p)) a.core_is)
+    rw (turn_some c room p a.first)
+    (ap (λ (ts : List ℕ). with_turns after (moved_last ts p)) (acted_turns c room p d after a) ∙ ap (λ (k : CoreState). with_turns k (moved_last c.turns p)) a.core_is)
 
 pub turn_did : (c : CoreState) (room p : ℕ) (d : Did) (after : CoreState) → ActedAt c room p d after → Some d ≡ (turn_of c room).did
 turn_did c room p d after a = rw (turn_some c room p a.first) (ap (λ (k : Did). Some k) a.did_is)

@@ -6,6 +6,8 @@ pub mod Turns
 pub mod Room
 pub mod Start
 pub mod Told
+pub mod Quick
+pub mod Next
 pub mod Ends
 pub mod Askers
 pub mod Replays

@@ -2,7 +2,7 @@
 
 /// A strand of a core that executes or drains: which rings have room (a bit for each destination),
 /// the core's time, and the bytes of RAM.
-#[derive(Clone, Copy, Debug, PartialEq, Eq)]
+#[derive(Clone, Copy)]
 pub struct Asker {
     pub number: u8,
     pub strand: u8,

@@ -1,8 +1,9 @@
 //! The items of a trace.
-ghost use Rattle.std.specs.Prelude.{◌≡◌};
+ghost use Rattle.std.specs.Prelude.{◌≡◌, ◌<◌};
 ghost use Rattle.t1_event.specs.Items.{access_item, membar_item, flush_item};
 ghost use Rattle.t1_core.specs.Stores.{store_op};
 ghost use Rattle.t1_core.specs.Threads.{read_item, op_for, placed};
+ghost use Rattle.t1_core.specs.Next.{AsksForWay};
 
 use t1_event::{How, Item, ItemKind};
 use t1_exec::{AtomicOp, Need};
@@ -56,7 +57,8 @@ pub fn read_item(need: Need, value: u64, how: How) -> Item
 
 /// What a load or an atomic asks of its destination.
 pub fn op_for(need: Need, way: u8) -> Op
-    ensures { result ≡ op_for need way }
+    ensures value { result ≡ op_for need way }
+    ensures way { way < 4 → AsksForWay result }
 {
     match need {
         Need::Load { addr, size } => Op::Load { addr, size, way },

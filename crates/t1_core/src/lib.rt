@@ -14,16 +14,19 @@ pub mod answers;
 pub mod asker;
 mod items;
 pub mod laws;
+mod next;
 pub mod phase;
 pub mod plan;
+pub mod quick;
 mod replies;
 mod rings;
 pub mod sparc_core;
 mod steps;
 #[cfg(test)]
+mod take_tests;
+#[cfg(test)]
 mod tests;
 pub mod thread;
-mod waits;
 
 pub use answers::{Did, Drained, Wait};
 pub use sparc_core::Core;

@@ -3,7 +3,7 @@
 use t1_event::Ending;
 
 /// Where a strand stands.
-#[derive(Clone, Copy, Debug, PartialEq, Eq)]
+#[derive(Clone, Copy)]
 pub enum Phase {
     /// Between two units.
     Fetch,

@@ -1,9 +1,11 @@
-//! What a need comes to.
+//! What a need comes to, and what a strand does next.
 
 use crate::answers::Wait;
+use crate::phase::Phase;
+use t1_packet::Op;
 
 /// What a strand would do for its instruction, as far as its own buffer tells.
-#[derive(Clone, Copy, Debug, PartialEq, Eq)]
+#[derive(Clone, Copy)]
 pub enum Plan {
     Waits(Wait),
     Trap(u16),
@@ -19,4 +21,14 @@ pub enum Plan {
     Look { addr: u64, size: u8 },
     /// A load from I/O, or an atomic.
     Send { addr: u64 },
+}
+
+/// What a strand would do next.
+#[derive(Clone, Copy)]
+pub enum Next {
+    /// It goes on, and needs no ring.
+    Moves,
+    Waits(Wait),
+    /// It asks for this where the ring has room, and is in this phase then.
+    Asks { op: Op, phase: Phase },
 }

@@ -6,18 +6,22 @@ ghost use Rattle.t1_event.specs.declared.report.Config.{Config as ConfigData};
 ghost use Rattle.t1_select.specs.Queue.{moved_last, first_ready};
 ghost use Rattle.t1_core.specs.Steps.{CoreState, asker, exec_of, wait_of, drain_of};
 ghost use Rattle.t1_core.specs.Takes.{emptied_in, killed_by, killed, answered, take_of};
-ghost use Rattle.t1_core.specs.Turns.{is_ready, ready_bit, ready_word, next_place, turn_of};
+ghost use Rattle.t1_core.specs.Turns.{is_ready, ready_bit, ready_word, next_place, with_turns, turn_of};
 ghost use Rattle.t1_core.specs.Room.{IsCoreConfig};
 ghost use Rattle.t1_core.specs.Start.{threads_from, new_core};
 ghost use Rattle.t1_core.specs.Told.{HasRing, HasDrainRing, WaitsStill, DrainsStill, ActedAt};
 ghost use Rattle.t1_core.specs.Ends.{finished_of, traces_of};
+ghost use Rattle.t1_core.specs.declared.answers.Did.TheVariants as did;
+ghost use Rattle.t1_core.specs.Next.{SendsForWay};
+ghost use Rattle.t1_core.specs.Quick.{IsQuick, QuickStill, TurnMovedTo, are_stores_held, HoldNoStore, is_drain};
 
 use crate::answers::{Did, Drained, Wait};
 use crate::asker::Asker;
+use crate::next::wait;
+use crate::quick::{Quick, quick_exec};
 use crate::replies::answer;
 use crate::steps::{drain, drain_answer, exec};
 use crate::thread::Thread;
-use crate::waits::wait;
 use std::alloc::{AllocError, Global};
 use std::marker::Model;
 use t1_event::{Config, Trace};
@@ -62,7 +66,7 @@ impl Model for Core {
 }
 
 /// Which place of the queue acted, and what its strand did.
-#[derive(Clone, Copy, Debug, PartialEq, Eq)]
+#[derive(Clone, Copy)]
 struct Acted {
     place: usize,
     did: Did,
@@ -139,6 +143,7 @@ impl Core {
         ensures did { result ≡ (exec_of self.old strand room).did }
         ensures ring { HasRing room result }
         ensures still { WaitsStill self.old self.new result }
+        ensures way { SendsForWay result }
     {
         self.exec_strand(strand, room)
     }
@@ -147,6 +152,7 @@ impl Core {
     fn exec_strand(&mut self, strand: u8, room: u16) -> Did
         ensures core { self.new ≡ (exec_of self.old strand room).core }
         ensures did { result ≡ (exec_of self.old strand room).did }
+        ensures way { SendsForWay result }
     {
         let asker = self.asker(strand, room);
         let Some(thread) = self.threads.get_mut(strand as usize) else {
@@ -203,10 +209,104 @@ impl Core {
         }
     }
 
+    /// Whether a drain of a strand would send a store.
+    pub fn would_drain(&self, strand: u8, room: u16) -> bool
+        ensures { result ≡ is_drain (drain_of self.now strand room).did }
+    {
+        match self.drain_of(strand, room) {
+            Drained::Sent { .. } => true,
+            Drained::Empty => false,
+            Drained::Out => false,
+            Drained::NoRoom(_) => false,
+        }
+    }
+
+    /// Whether some strand holds a store.
+    pub fn holds_stores(&self) -> bool
+        ensures value { result ≡ are_stores_held self.now.threads }
+        ensures none { result ≡ false → HoldNoStore self.now.threads }
+    {
+        for thread in &self.threads {
+            if thread.holds_store() {
+                return true;
+            }
+        }
+        false
+    }
+
+    /// A strand executes, where no ring has to have room for it.
+    #[tactic(auto, using(crate::proofs::Quiet::set_back), unfolding(crate::specs::Steps::exec_of))]
+    fn quick_strand(&mut self, strand: u8) -> Quick
+        ensures step { (room : ℕ) → let a = exec_of self.old strand room in IsQuick self.new a.core a.did result }
+        ensures still { QuickStill self.old self.new result }
+    {
+        let asker = self.asker(strand, 0);
+        let Some(thread) = self.threads.get_mut(strand as usize) else {
+            return Quick::Waits;
+        };
+        quick_exec(asker, &self.icache, &self.dcache, thread)
+    }
+
+    /// The first strand of the queue that does not wait executes, where no ring has to have room for
+    /// it; its place in the queue.
+    fn quick_first(&mut self) -> Option<usize>
+        ensures some { (room : ℕ) → IfSome result (λ p. ActedAt self.old room p did.Moved self.new) }
+        ensures none { IfNone result (self.new ≡ self.old) }
+    {
+        let count = self.select.len();
+        for place in 0..count {
+            let strand = self.select.at(place);
+            match self.quick_strand(strand) {
+                Quick::Moved => return Some(place),
+                Quick::Waits => {}
+                Quick::Asks => return None,
+            }
+        }
+        None
+    }
+
+    /// The strand at a place of the queue goes to its end.
+    #[tactic(auto, using(crate::proofs::Turning::parts_moved))]
+    fn move_last(&mut self, place: usize)
+        requires { place < length self.old.turns }
+        ensures { self.new ≡ with_turns self.old (moved_last self.old.turns place) }
+    {
+        self.select.move_last(place);
+    }
+
+    /// A turn in which no ring has to have room. If it is done, a turn with any rings would do the
+    /// same, and nothing is sent; else nothing changes.
+    pub fn quick_turn(&mut self) -> bool
+        ensures moved { (room : ℕ) → result ≡ true → TurnMovedTo self.new (turn_of self.old room) }
+        ensures still { result ≡ false → self.new ≡ self.old }
+    {
+        let Some(place) = self.quick_first() else {
+            return false;
+        };
+        self.move_last(place);
+        true
+    }
+
+    /// Whether a turn would find a strand that does not wait.
+    pub fn would_act(&self, room: u16) -> bool
+        ensures { result ≡ is_some (turn_of self.now room).did }
+    {
+        let count = self.select.len();
+        for place in 0..count {
+            let strand = self.select.at(place);
+            match self.wait_of(strand, room) {
+                None => return true,
+                Some(_) => {}
+            }
+        }
+        false
+    }
+
     /// The first strand of the queue that does not wait executes; its place in the queue.
     #[tactic(auto, using(crate::proofs::Quiet::exec_quiet, t1_select::proofs::Places::first_ready_is, t1_select::proofs::Places::first_ready_none))]
     fn act_first(&mut self, room: u16) -> Option<Acted>
         ensures some { IfSome result (λ a. ActedAt self.old room a.place a.did self.new) }
+        ensures way { IfSome result (λ a. SendsForWay a.did) }
         ensures none { IfNone result ((next_place self.old room ≡ None) × (self.new ≡ self.old)) }
     {
         let count = self.select.len();
@@ -234,9 +334,10 @@ impl Core {
         ensures did { result ≡ (turn_of self.old room).did }
         ensures ring { IfSome result (λ d. HasRing room d) }
         ensures still { IfNone result (self.new ≡ self.old) }
+        ensures way { IfSome result (λ d. SendsForWay d) }
     {
         let acted = self.act_first(room)?;
-        self.select.move_last(acted.place);
+        self.move_last(acted.place);
         Some(acted.did)
     }
 

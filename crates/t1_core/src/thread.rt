@@ -15,6 +15,7 @@ ghost use Rattle.t1_core.specs.Steps.{plan_of, plan_look, if_empty, is_fence};
 ghost use Rattle.t1_core.specs.Room.{owed, IsPlan, IsInsnOf};
 ghost use Rattle.t1_core.specs.Ends.{is_over, trace_of};
 ghost use Rattle.t1_core.specs.Start.{first_thread};
+ghost use Rattle.t1_core.specs.Quick.{is_store_held};
 
 use crate::answers::Wait;
 use crate::items::{item, read_item};
@@ -380,6 +381,13 @@ impl Thread {
         if place < self.items.len() {
             self.items[place].how = how;
         }
+    }
+
+    /// Whether it holds a store.
+    pub fn holds_store(&self) -> bool
+        ensures { result ≡ is_store_held self.now.stores }
+    {
+        !self.stores.is_empty()
     }
 
     /// Whether it has ended, with an empty buffer.

@@ -3,7 +3,6 @@ use Rattle.std.proofs.Common.{◌≡◌, ◌⊎◌, ◌≤◌, ℕ, zero, suc, �
 use Rattle.std.specs.List.{slice_get}
 use Rattle.std.proofs.lemmas.Bool.{cases_eq}
 use Rattle.t1_shape.specs.Shapes.Shape.{T1}
-use Rattle.t1_state.specs.declared.strand.Strand.{Strand}
 use Rattle.t1_packet.specs.declared.op.Op.{Op}
 use Rattle.t1_packet.specs.declared.packet.Packet.{Packet}
 use Rattle.t1_packet.specs.Data.{RequestData, ReplyData}
@@ -34,10 +33,8 @@ use Rattle.t1_received.specs.Requests.{of_class, GoTo}
 use Rattle.t1_core.specs.Stores.{store_op}
 use Rattle.t1_core.specs.Threads.{ThreadState, placed_at, item_placed, acknowledged}
 use Rattle.t1_core_rule.specs.Outs.{store_request, stores_out, read_out, outs, numbers_of, track_of, IsEntryOf, AreEntriesOf}
-use Rattle.t1_core_rule.specs.Replays.{FollowsIn}
 use Rattle.t1_core_rule.proofs.Moves.{class_store, class_store_not}
 use Rattle.t1_core_rule.proofs.Taken.{time_more}
-use Rattle.t1_core_rule.proofs.Replays.{bare, bare_placed}
 use Rattle.t1_core_rule.proofs.Answers.{IsItemOf}
 use Rattle.t1_core_rule.proofs.Came as came
 use Rattle.t1_core_rule.proofs.Came.{IsCome, comes_now}
@@ -85,9 +82,9 @@ store_item_of n r x e k a z v o = record {
   got = λ read. absurd (store_not_read x.kind k read);
 }
 
-module _ (number ram clock budget : ℕ) (from : Strand) (received : List Packet) (p : Packet) (le : clock ≤ p.index) (r : ReplyData) (is : p.reply ≡ Some r) (sent : IsTime received r.seen)
+module _ (number ram clock budget : ℕ) (received : List Packet) (p : Packet) (le : clock ≤ p.index) (r : ReplyData) (is : p.reply ≡ Some r) (sent : IsTime received r.seen)
     (t : ThreadState) (e : Entry) (rest : List Entry) (ts : List ℕ) (stores : t.stores ≡ e ∷ rest) (times : t.times ≡ r.seen ∷ ts) (op_is : store_op e ≡ r.op) (place : e.item ≡ r.item)
-    (f : came.Before number ram clock budget from received p le r.strand t) (store : is_store r.op ≡ true) where
+    (f : came.Before number ram clock budget received p le r.strand t) (store : is_store r.op ≡ true) where
   abbrev how : How
   how = Commit p.index r.seen
 
@@ -137,29 +134,26 @@ module _ (number ram clock budget : ℕ) (from : Strand) (received : List Packet
       ap (λ (k : ℕ). read_out number r.strand ram t.strand k t.phase) (sym (length_placed t.items e.item how))
       ∙ ap (λ (rs : List RequestData). rs ++ read_out number r.strand ram t.strand (length (order.placed_at t.items e.item how)) t.phase) (sym (class_store_not r.strand (answers number r) store))
 
-  come_at : IsOldestItem → IsCome number ram clock budget from received p le r is sent t u
+  come_at : IsOldestItem → IsCome number ram clock budget received p le r is sent t u
   come_at o = record {
     thread = record {
       budget_is = f.budget_is;
       kept = subst (λ (v : Track). IsKept one_at_a_time v) (sym acked_track) (events_keep_order one_at_a_time (track_of ram clock t) (Acknowledge p.index) allowed f.kept);
-      right = subst (λ (v : Track). ArePlacedRightly T1 ram (came.later number ram clock budget from received p le) v) (sym acked_track)
-          (events_keep_places T1 ram (came.caches number ram clock budget from received p le) (came.later number ram clock budget from received p le) one_at_a_time (track_of ram clock t) (Acknowledge p.index)
-          allowed f.kept (came.up_to number ram clock budget from received p le) tt f.right);
+      right = subst (λ (v : Track). ArePlacedRightly T1 ram (came.later number ram clock budget received p le) v) (sym acked_track)
+          (events_keep_places T1 ram (came.caches number ram clock budget received p le) (came.later number ram clock budget received p le) one_at_a_time (track_of ram clock t) (Acknowledge p.index)
+          allowed f.kept (came.up_to number ram clock budget received p le) tt f.right);
       entries = entries_placed t.items e.item how rest own.1;
       times = λ k y h.
           elim (split_item o k y h) [
-            | inl q ↦ came.old_time number ram clock budget from received p le r.strand t f k y q
+            | inl q ↦ came.old_time number ram clock budget received p le r.strand t f k y q
             | inr q ↦ subst (λ (v : Item). IsTime (received ++ p ∷ []) (at_of v.how)) q.1 (time_more received p r.seen sent)
           ];
       way = (f.way.0, (subst (λ (rs : List RequestData). GoTo T1 f.way.0 rs) outs_split f.way.1).1);
       came = λ k n seen y h h_how.
           elim (split_item o k y h) [
-            | inl q ↦ came.old_come number ram clock budget from received p le r.strand t f k n seen y q h_how
+            | inl q ↦ came.old_come number ram clock budget received p le r.strand t f k n seen y q h_how
             | inr q ↦ comes_now received p r k n seen y is (sym place ∙ sym q.0) (subst (λ (v : Item). IsItemOf p.index r v) q.1 o.is_item) h_how
           ];
-      follows =
-          (let same : bare (order.placed_at t.items e.item how) ≡ bare t.items = ap bare (sym (item_placed_is t.items e.item how)) ∙ bare_placed t.items e.item how in
-          subst (λ (ys : List Item). FollowsIn (record { ram = ram; budget = t.budget }) from t.strand ys t.phase) (sym same) f.follows);
     };
     outs = stored_outs;
     item = record o.item { how = how };
@@ -175,5 +169,5 @@ module _ (number ram clock budget : ℕ) (from : Strand) (received : List Packet
   unfolding acknowledged
   is_u = rw (stores, times, item_placed_is t.items e.item how) refl
 
-  pub stored_come : (v : ThreadState) → v ≡ acknowledged t e how → IsCome number ram clock budget from received p le r is sent t v
-  stored_come v now = subst (λ (z : ThreadState). IsCome number ram clock budget from received p le r is sent t z) (sym (now ∙ is_u)) (come_at oldest)
+  pub stored_come : (v : ThreadState) → v ≡ acknowledged t e how → IsCome number ram clock budget received p le r is sent t v
+  stored_come v now = subst (λ (z : ThreadState). IsCome number ram clock budget received p le r is sent t z) (sym (now ∙ is_u)) (come_at oldest)

@@ -1,5 +1,5 @@
 -- A proper reply to what a strand has out: what it does to the strand and to the caches.
-use Rattle.std.proofs.Common.{◌≡◌, ◌⊎◌, ◌<◌, ℕ, ◌*◌, ◌^◌, ◌==◌, ◌&&◌, Bool, true, false, List, [], ◌∷◌, ◌++◌, length, take, Option, Some, None, refl, ap, sym, ◌∙◌, subst, inl, inr, if◌then◌else◌}
+use Rattle.std.proofs.Common.{◌≡◌, ◌⊎◌, ℕ, ◌&&◌, Bool, true, false, List, [], ◌∷◌, ◌++◌, length, take, Option, Some, None, refl, ap, sym, ◌∙◌, subst, inl, inr, if◌then◌else◌}
 use Rattle.std.specs.List.{slice_get}
 use Rattle.std.proofs.lemmas.Bool.{cases_Bool}
 use Rattle.t1_shape.specs.Shapes.Shape.{T1}
@@ -7,8 +7,6 @@ use Rattle.t1_shape.specs.Slots.{Line}
 use Rattle.t1_decode.specs.Words.{insn_of}
 use Rattle.t1_state.specs.declared.strand.Strand.{Strand}
 use Rattle.t1_exec.specs.declared.need.Need.{Need}
-use Rattle.t1_exec.specs.declared.need.Need.TheVariants as need
-use Rattle.t1_exec.specs.declared.need.AtomicOp.TheVariants.{Swap, Cas}
 use Rattle.t1_exec.specs.Needs.{need_of}
 use Rattle.t1_exec.specs.Meanings.{after_of}
 use Rattle.t1_packet.specs.declared.cache.Cache.TheVariants.{Dcache, Icache}
@@ -20,7 +18,6 @@ use Rattle.t1_packet.specs.Ops.{op_addr, op_size, is_store}
 use Rattle.t1_sbuf.specs.declared.entry.Entry.{Entry}
 use Rattle.t1_l1.specs.Cache.{updated}
 use Rattle.t1_event.specs.declared.item.Item.{Item}
-use Rattle.t1_event.specs.declared.item.How.{How}
 use Rattle.t1_event.specs.declared.item.How.TheVariants.{Commit}
 use Rattle.t1_event.specs.Kinds.{IsRead, IsAccess}
 use Rattle.t1_event.specs.Items.{fetch_item}
@@ -36,11 +33,11 @@ use Rattle.t1_core.specs.Stores.{AreSent, store_op}
 use Rattle.t1_core.specs.Threads.{ThreadState, thread_need, next_phase, placed, unit_done, word_came, read_item, value_came, op_for, acknowledged}
 use Rattle.t1_core.specs.Takes.{fill_with, accepts, Answered, answered_read, answered_store, thread_answer}
 use Rattle.t1_core_rule.specs.Outs.{store_request, stores_out, read_out, outs, asked_of}
-use Rattle.t1_core_rule.specs.Replays.{IsReading, FollowsIn, FollowsSoFar}
+use Rattle.t1_core.specs.Replays.{IsReading, ReplaysAt}
 use Rattle.t1_core_rule.specs.Fitting.{cache_with}
 use Rattle.t1_core_rule.proofs.Pieces.{next_asked, next_reads}
-use Rattle.t1_core_rule.proofs.Kills.{fetch_fill, load_fill, store_fill, accepted}
-use Rattle.t1_core_rule.proofs.Replays.{FitsNeed, word_follows, value_follows}
+use Rattle.t1_core_rule.proofs.Asks.{value_of, data_fill, data_keep}
+use Rattle.t1_core_rule.proofs.Kills.{fetch_fill, store_fill, accepted}
 
 -- the item of an access that a reply answers
 pub record IsItemOf (n : ℕ) (r : ReplyData) (y : Item) : Type 0 where
@@ -72,7 +69,6 @@ pub record IsReadBy (number ram strand n : ℕ) (r : ReplyData) (t u : ThreadSta
   pub like : IsLike item.kind asked.kind
   pub addr : item.addr ≡ asked.addr
   pub size : item.size ≡ asked.size
-  pub follows : (from : Strand) → FollowsSoFar ram from t → FollowsSoFar ram from u
 
 -- the oldest store is acknowledged
 pub record IsStoredBy (number strand n : ℕ) (r : ReplyData) (t u : ThreadState) : Type 0 where
@@ -84,83 +80,6 @@ pub record IsStoredBy (number strand n : ℕ) (r : ReplyData) (t u : ThreadState
   pub op_is : store_op entry ≡ r.op
   pub place : entry.item ≡ r.item
   pub now : u ≡ acknowledged t entry (Commit n r.seen)
-
-some_read : (n : Need) (way : ℕ) → IsReading n → IsLike (read_item n 0).kind (read_item n 0).kind
-some_read (need.Load a z) way r = refl
-some_read (need.Atomic a z (Swap new)) way r = tt
-some_read (need.Atomic a z (Cas expect new)) way r = tt
-some_read need.Plain way r = absurd r
-some_read need.Halt way r = absurd r
-some_read (need.Trap number) way r = absurd r
-some_read (need.Store a z p) way r = absurd r
-some_read (need.Membar mask) way r = absurd r
-some_read need.Flush way r = absurd r
-
--- the item of a load or an atomic
-record IsValueOf (m : Need) (w : ℕ) (v : ℕ) (how : How) (way : Option ℕ) : Type 0 where
-  access : IsAccess (read_item m v).kind
-  size_is : op_size (op_for m w) ≡ (read_item m v).size
-  op_is : plain_op (op_for m w) v way ≡ op_of (placed (read_item m v) how) way (read_item m v).kind
-  got : (read_item m v).got ≡ v
-  like : IsLike (read_item m v).kind (read_item m 0).kind
-  addr : (read_item m v).addr ≡ (read_item m 0).addr
-  size : (read_item m v).size ≡ (read_item m 0).size
-
-value_of : (m : Need) (w v : ℕ) (how : How) (way : Option ℕ) → IsReading m → IsValueOf m w v how way
-value_of (need.Load a z) w v how way r = record { access = refl; size_is = refl; op_is = refl; got = refl; like = refl; addr = refl; size = refl }
-value_of (need.Atomic a z (Swap new)) w v how way r = record { access = refl; size_is = refl; op_is = refl; got = refl; like = tt; addr = refl; size = refl }
-value_of (need.Atomic a z (Cas expect new)) w v how way r = record {
-  access = refl;
-  size_is = refl;
-  op_is = elim (cases_Bool (v == expect)) [ inl e ↦ rw e refl | inr e ↦ rw e refl ];
-  got = refl;
-  like = tt;
-  addr = refl;
-  size = refl;
-}
-value_of need.Plain w v how way r = absurd r
-value_of need.Halt w v how way r = absurd r
-value_of (need.Trap number) w v how way r = absurd r
-value_of (need.Store a z p) w v how way r = absurd r
-value_of (need.Membar mask) w v how way r = absurd r
-value_of need.Flush w v how way r = absurd r
-
--- an atomic's reply has no way, so nothing is filled
-data_fill : (m : Need) (w : ℕ) (way : Option ℕ) (line : List ℕ) (sd : List (Option Line)) (pd : List ℕ) → IsReading m → IsReplyWay T1 (op_for m w) way
-    → fill_with (cache_with Dcache sd pd) (op_addr (op_for m w)) way (take 16 line)
-    ≡ cache_with Dcache (with_answer T1 Dcache (op_for m w) way line sd) (pointers_with_answer T1 Dcache (op_for m w) way pd)
-data_fill (need.Load a z) w way line sd pd r e = load_fill sd pd a z w way line
-data_fill (need.Atomic a z (Swap new)) w way line sd pd r e = rw e refl
-data_fill (need.Atomic a z (Cas expect new)) w way line sd pd r e = rw e refl
-data_fill need.Plain w way line sd pd r e = absurd r
-data_fill need.Halt w way line sd pd r e = absurd r
-data_fill (need.Trap number) w way line sd pd r e = absurd r
-data_fill (need.Store a z p) w way line sd pd r e = absurd r
-data_fill (need.Membar mask) w way line sd pd r e = absurd r
-data_fill need.Flush w way line sd pd r e = absurd r
-
-data_keep : (m : Need) (w : ℕ) (way : Option ℕ) (line : List ℕ) (si : List (Option Line)) (pi : List ℕ) → IsReading m
-    → cache_with Icache si pi ≡ cache_with Icache (with_answer T1 Icache (op_for m w) way line si) (pointers_with_answer T1 Icache (op_for m w) way pi)
-data_keep (need.Load a z) w way line si pi r = refl
-data_keep (need.Atomic a z (Swap new)) w way line si pi r = refl
-data_keep (need.Atomic a z (Cas expect new)) w way line si pi r = refl
-data_keep need.Plain w way line si pi r = absurd r
-data_keep need.Halt w way line si pi r = absurd r
-data_keep (need.Trap number) w way line si pi r = absurd r
-data_keep (need.Store a z p) w way line si pi r = absurd r
-data_keep (need.Membar mask) w way line si pi r = absurd r
-data_keep need.Flush w way line si pi r = absurd r
-
-fits_need : (m : Need) (w v : ℕ) → IsReading m → v < 2 ^ (8 * op_size (op_for m w)) → FitsNeed v m
-fits_need (need.Load a z) w v r l = l
-fits_need (need.Atomic a z (Swap new)) w v r l = l
-fits_need (need.Atomic a z (Cas expect new)) w v r l = l
-fits_need need.Plain w v r l = absurd r
-fits_need need.Halt w v r l = absurd r
-fits_need (need.Trap number) w v r l = absurd r
-fits_need (need.Store a z p) w v r l = absurd r
-fits_need (need.Membar mask) w v r l = absurd r
-fits_need need.Flush w v r l = absurd r
 
 none_first : (q : RequestData) (tail : List RequestData) → [] ≡ q ∷ tail → ⊥
 none_first q tail e = let clash : ◌≡◌ {A = List RequestData} [] (q ∷ tail) = e in cc
@@ -176,11 +95,11 @@ ReadsIn ram s (phase.OutFetch way seen) = Unit {0}
 ReadsIn ram s (phase.OutData word way seen) = IsReading (need_of s (insn_of word) ram)
 ReadsIn ram s (phase.Ended e) = Unit {0}
 
-pub reads_in : (b : Bounds) (from s : Strand) (items : List Item) (p : Phase) → FollowsIn b from s items p → ReadsIn b.ram s p
+pub reads_in : (b : Bounds) (from s : Strand) (items : List Item) (p : Phase) → ReplaysAt b from s items p → ReadsIn b.ram s p
 reads_in b from s items phase.Fetch f = tt
 reads_in b from s items (phase.Have word) f = tt
 reads_in b from s items (phase.OutFetch way seen) f = tt
-reads_in b from s items (phase.OutData word way seen) f = f.reading
+reads_in b from s items (phase.OutData word way seen) f = f.reads
 reads_in b from s items (phase.Ended e) f = tt
 
 module _ (number ram strand n : ℕ) (r : ReplyData) (good : IsProperReply T1 n r) (whole : take 32 r.line ≡ r.line) (sd : List (Option Line)) (pd : List ℕ) (si : List (Option Line)) (pi : List ℕ) where
@@ -208,8 +127,7 @@ module _ (number ram strand n : ℕ) (r : ReplyData) (good : IsProperReply T1 n 
         let is_op : o ≡ r.op = ap (λ (v : RequestData). v.op) same in
         let is_item : length xs ≡ r.item = ap (λ (v : RequestData). v.item) same in
         let is_seen : seen ≡ r.seen = ap (λ (v : RequestData). v.seen) same in
-        let y : Item = placed (fetch_item s.pc r.old) (Commit n r.seen) in
-        let fits : r.old < 2 ^ 32 = subst (λ (v : Op). r.old < 2 ^ (8 * op_size v)) (sym is_op) good.old in (
+        let y : Item = placed (fetch_item s.pc r.old) (Commit n r.seen) in (
           record {
             item = y;
             items = refl;
@@ -232,7 +150,6 @@ module _ (number ram strand n : ℕ) (r : ReplyData) (good : IsProperReply T1 n 
             like = refl;
             addr = refl;
             size = refl;
-            follows = λ from f. word_follows (record { ram = ram; budget = budget }) from s xs r.old (Commit n r.seen) f fits;
           },
           record {
             dcache = ap (λ (v : Op). cache_with Dcache (with_answer T1 Dcache v r.way r.line sd) (pointers_with_answer T1 Dcache v r.way pd)) is_op;
@@ -271,7 +188,6 @@ module _ (number ram strand n : ℕ) (r : ReplyData) (good : IsProperReply T1 n 
         let y : Item = placed (read_item m r.old) (Commit n r.seen) in
         let u : Strand = after_of s (insn_of word) r.old in
         let v = value_of m way r.old (Commit n r.seen) r.way reads in
-        let old : r.old < 2 ^ (8 * op_size o) = subst (λ (w : Op). r.old < 2 ^ (8 * op_size w)) (sym is_op) good.old in
         let reply_way : IsReplyWay T1 o r.way = subst (λ (w : Op). IsReplyWay T1 w r.way) (sym is_op) good.way in (
           record {
             item = y;
@@ -295,7 +211,6 @@ module _ (number ram strand n : ℕ) (r : ReplyData) (good : IsProperReply T1 n 
             like = v.like;
             addr = v.addr;
             size = v.size;
-            follows = λ from f. value_follows (record { ram = ram; budget = budget }) from s xs word r.old (Commit n r.seen) f.begun (fits_need m way r.old reads old);
           },
           record {
             dcache =

@@ -1,19 +1,22 @@
--- No exec changes the units that a strand may run.
-use Rattle.std.proofs.Common.{◌≡◌, ℕ, Bool, true, false, Option, Some, None, refl, inl, inr}
+-- No exec or drain changes the units that a strand may run.
+use Rattle.std.proofs.Common.{◌≡◌, ℕ, Bool, true, false, List, [], ◌∷◌, Option, Some, None, refl, inl, inr}
 use Rattle.std.proofs.lemmas.Bool.{cases_Bool}
 use Rattle.t1_shape.specs.Shapes.Shape.{T1}
 use Rattle.t1_state.specs.Interrupts.{due_of}
 use Rattle.t1_packet.specs.declared.op.Op.{Op}
 use Rattle.t1_packet.specs.Ops.{op_dest}
 use Rattle.t1_l1.specs.Cache.{CacheState, read_of}
+use Rattle.t1_sbuf.specs.declared.entry.Entry.{Entry}
+use Rattle.t1_sbuf.specs.Entries.{next_to_send_of}
 use Rattle.t1_joint.specs.Replay.{is_fetchable}
 use Rattle.t1_core.specs.declared.asker.Asker.{Asker}
 use Rattle.t1_core.specs.declared.phase.Phase.{Phase}
 use Rattle.t1_core.specs.declared.phase.Phase.TheVariants as phase
 use Rattle.t1_core.specs.declared.plan.Plan.{Plan}
 use Rattle.t1_core.specs.declared.plan.Plan.TheVariants as plan
+use Rattle.t1_core.specs.Stores.{store_op}
 use Rattle.t1_core.specs.Threads.{ThreadState, thread_need, unit_done, halted, trapped, word_came, load_came, stored}
-use Rattle.t1_core.specs.Steps.{has_room, asked, asked_fetch, asked_data, exec_fetch, exec_begin, exec_look, exec_plan, exec_phase, plan_of, thread_exec}
+use Rattle.t1_core.specs.Steps.{has_room, asked, asked_fetch, asked_data, exec_fetch, exec_begin, exec_look, exec_plan, exec_phase, plan_of, thread_exec, drain_next, drain_stores, thread_drain}
 
 module _ (x : Asker) (icache dcache : CacheState) (t : ThreadState) where
   asked_budget : (o : Op) (p : Phase) → (asked x t o p).thread.budget ≡ t.budget
@@ -63,3 +66,15 @@ module _ (x : Asker) (icache dcache : CacheState) (t : ThreadState) where
   pub exec_budget : (thread_exec x icache dcache t).thread.budget ≡ t.budget
   unfolding thread_exec
   exec_budget = phase_budget t.phase
+
+  next_budget : (o : Option Entry) → (drain_next x t o).thread.budget ≡ t.budget
+  next_budget None = refl
+  next_budget (Some e) = elim (cases_Bool (has_room x.room (op_dest T1 (store_op e)))) [ inl r ↦ rw r refl | inr r ↦ rw r refl ]
+
+  stores_budget : (es : List Entry) → (drain_stores x t es).thread.budget ≡ t.budget
+  stores_budget [] = refl
+  stores_budget (e ∷ es) = next_budget (next_to_send_of (e ∷ es))
+
+  pub drain_budget : (thread_drain x t).thread.budget ≡ t.budget
+  unfolding thread_drain
+  drain_budget = stores_budget t.stores

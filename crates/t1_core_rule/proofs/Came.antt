@@ -2,7 +2,6 @@
 use Rattle.std.proofs.Common.{◌≡◌, ◌⊎◌, ◌≤◌, ℕ, ◌+◌, Bool, true, false, List, [], ◌∷◌, ◌++◌, length, Some, refl, ap, sym, ◌∙◌, subst, inl, inr, arith}
 use mathlib.Core.List.{append-nil}
 use Rattle.t1_shape.specs.Shapes.Shape.{T1}
-use Rattle.t1_state.specs.declared.strand.Strand.{Strand}
 use Rattle.t1_packet.specs.declared.packet.Packet.{Packet}
 use Rattle.t1_packet.specs.Data.{RequestData, ReplyData}
 use Rattle.t1_packet.specs.Ops.{is_store}
@@ -66,7 +65,7 @@ comes_now received p r k n seen x is item o how =
       got = o.got;
     }
 
-module _ (number ram clock budget : ℕ) (from : Strand) (received : List Packet) (p : Packet) (le : clock ≤ p.index) where
+module _ (number ram clock budget : ℕ) (received : List Packet) (p : Packet) (le : clock ≤ p.index) where
   abbrev pub longer : List Packet
   longer = received ++ p ∷ []
 
@@ -80,10 +79,10 @@ module _ (number ram clock budget : ℕ) (from : Strand) (received : List Packet
   up_to t l = (caches_follow_packets T1 number received p).slots_stay t (omega (arith, l, le))
 
   abbrev pub Before : ℕ → ThreadState → Type 0
-  Before s t = IsFittingThread number ram clock budget from received s t
+  Before s t = IsFittingThread number ram clock budget received s t
 
   abbrev pub After : ℕ → ThreadState → Type 0
-  After s t = IsFittingThread number ram (p.index + 1) budget from longer s t
+  After s t = IsFittingThread number ram (p.index + 1) budget longer s t
 
   pub old_come : (s : ℕ) (t : ThreadState) → Before s t → (k n seen : ℕ) (x : Item) → HasItem t.items k x → x.how ≡ Commit n seen → HasCome longer s k n seen x
   old_come s t f k n seen x h how = come_more received p s k n seen x (f.came k n seen x h how)
@@ -103,7 +102,6 @@ module _ (number ram clock budget : ℕ) (from : Strand) (received : List Packet
         times = λ k x h. old_time s t f k x h;
         way = f.way;
         came = λ k n seen x h how. old_come s t f k n seen x h how;
-        follows = f.follows;
       }
 
   module _ (r : ReplyData) (is : p.reply ≡ Some r) (sent : IsTime received r.seen) (t u : ThreadState) where
@@ -164,7 +162,6 @@ module _ (number ram clock budget : ℕ) (from : Strand) (received : List Packet
                     let o : IsItemOf p.index r y = subst (λ (v : Item). IsItemOf p.index r v) q.1 a.is in
                     comes_now received p r k n seen y is place o how
               ];
-          follows = a.follows from f.follows;
         };
         outs = read_outs;
         item = a.item;

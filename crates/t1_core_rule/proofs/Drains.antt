@@ -34,7 +34,7 @@ record IsNext (es : List Entry) (ts : List ℕ) (e : Entry) : Type 0 where
   unsent : e.sent ≡ false
   left : AreSent rest []
 
-all_unsent : (es : List Entry) → AreSent es [] → are_unsent es ≡ true
+pub all_unsent : (es : List Entry) → AreSent es [] → are_unsent es ≡ true
 all_unsent [] f = refl
 all_unsent (e ∷ es) f = rw (f.0, all_unsent es f.1) refl
 
@@ -42,7 +42,7 @@ sent_first : (d : Entry) (ds : List Entry) → d.sent ≡ true → next_to_send_
 unfolding next_to_send_of
 sent_first d ds e = rw e refl
 
-unsent_first : (d : Entry) (ds : List Entry) → d.sent ≡ false → are_unsent ds ≡ true → next_to_send_of (d ∷ ds) ≡ Some d
+pub unsent_first : (d : Entry) (ds : List Entry) → d.sent ≡ false → are_unsent ds ≡ true → next_to_send_of (d ∷ ds) ≡ Some d
 unfolding next_to_send_of
 unsent_first d ds e f = rw (e, f) refl
 

@@ -16,7 +16,7 @@ use Rattle.t1_core_rule.proofs.Fits.{history_fits}
 pub caches_follow_packets : CachesFollowPackets
 caches_follow_packets w core calls whole some lines proper =
     let h : History = history_of w core calls in
-    let f : IsFitting w h = history_fits w core calls whole some lines proper in
+    let f : IsFitting w h = (history_fits w core calls whole some lines proper).fitting in
     subst (λ (c : ℕ). CachesAreOfPackets c h) (history_steady w core calls whole).number (record { dcache = f.dcache; icache = f.icache })
 
 abbrev packet : ℕ → Packet

@@ -1,9 +1,8 @@
 -- What an exec does to a strand.
-use Rattle.std.proofs.Common.{◌≡◌, ◌⊎◌, ◌≤◌, ◌<◌, ℕ, ◌+◌, ◌%◌, ◌==◌, Bool, true, false, List, [], ◌∷◌, ◌++◌, length, Option, Some, None, refl, ap, sym, ◌∙◌, subst, inl, inr, arith, nat_lt}
+use Rattle.std.proofs.Common.{◌≡◌, ◌⊎◌, ◌<◌, ℕ, ◌%◌, ◌==◌, Bool, true, false, List, [], ◌∷◌, ◌++◌, length, Option, Some, None, refl, ap, sym, ◌∙◌, subst, inl, inr, arith, nat_lt}
 use Rattle.std.proofs.lemmas.Bool.{cases_Bool, eqb-true, ltb-true, and_parts}
 use Rattle.std.proofs.lemmas.List.{map-append, length-map}
 use mathlib.Core.List.{append-nil}
-use Rattle.t1_num.specs.Memory.{IsSize}
 use Rattle.t1_shape.specs.Shapes.Shape.{T1}
 use Rattle.t1_shape.specs.Slots.{victim_of}
 use Rattle.t1_space.specs.Places.{is_io}
@@ -12,7 +11,6 @@ use Rattle.t1_state.specs.declared.strand.Strand.{Strand}
 use Rattle.t1_state.specs.Traps.{entered, entered_by}
 use Rattle.t1_exec.specs.declared.need.Need.{Need}
 use Rattle.t1_exec.specs.declared.need.Need.TheVariants as need
-use Rattle.t1_exec.specs.declared.need.AtomicOp.TheVariants.{Swap, Cas}
 use Rattle.t1_exec.specs.Needs.{need_of}
 use Rattle.t1_exec.specs.Meanings.{after_of}
 use Rattle.t1_packet.specs.declared.cache.Cache.{Cache}
@@ -26,8 +24,7 @@ use Rattle.t1_sbuf.specs.declared.entry.Entry.{Entry}
 use Rattle.t1_sbuf.specs.declared.entry.Look.{Look}
 use Rattle.t1_sbuf.specs.declared.entry.Look.TheVariants as look
 use Rattle.t1_sbuf.specs.Looks.{look_of}
-use Rattle.t1_l1.specs.Cache.{CacheState, ArePointers, read_of, victim_at}
-use Rattle.t1_l1.proofs.Pointers.{victim_below}
+use Rattle.t1_l1.specs.Cache.{CacheState, read_of, victim_at}
 use Rattle.t1_event.specs.declared.item.Item.{Item}
 use Rattle.t1_event.specs.declared.item.How.{How}
 use Rattle.t1_event.specs.declared.item.How.TheVariants.{Unplaced, Forward, Hit, Commit}
@@ -53,12 +50,13 @@ use Rattle.t1_core_rule.specs.Histories.{asked_by}
 use Rattle.t1_received.specs.Requests.{of_class, GoTo}
 use Rattle.t1_event.specs.Times.{at_of}
 use Rattle.t1_core_rule.specs.Outs.{stores_out, read_out, outs, asked_of, numbers_of}
-use Rattle.t1_core_rule.specs.Replays.{IsReading}
+use Rattle.t1_core.specs.Replays.{IsReading}
 use Rattle.t1_core_rule.specs.Steady.{IsGoodEntry, IsCache}
 use Rattle.t1_core_rule.specs.Fitting.{cache_with}
 use Rattle.t1_core_rule.proofs.Lines.{got_line, is_missing}
 use Rattle.t1_core_rule.proofs.Looks.{none_overlaps, forwarded}
-use Rattle.t1_core_rule.proofs.Pieces.{size_some, next_reads, entry_reads, next_asked, entry_asked, sent_push, good_push, stores_push, entries_more, op_reads}
+use Rattle.t1_core_rule.proofs.Pieces.{next_reads, entry_reads, next_asked, entry_asked, sent_push, good_push, stores_push, entries_more, op_reads}
+use Rattle.t1_core_rule.proofs.Asks.{below, op_fine, way_below, data_victim, read_kind}
 use Rattle.t1_core_rule.proofs.Moves.{IsMadeNow, IsFresh, IsReady, IsRight, IsMove, io_true, class_not, class_read, outs_same, same_move, entries_push}
 
 module _ (x : Asker) (blocks : x.ram % 65536 ≡ 0) (icache dcache : CacheState) (ic : IsCache Icache icache) (dc : IsCache Dcache dcache) (caches : Caches) (pointers : Cache → List ℕ)
@@ -147,12 +145,6 @@ module _ (x : Asker) (blocks : x.ram % 65536 ≡ 0) (icache dcache : CacheState)
       let e' : read_of (cache_with Icache (caches x.time Icache) (pointers Icache)) s.pc 4 ≡ None = subst (λ (c : CacheState). read_of c s.pc 4 ≡ None) r.icache_is e in
       (inside, is_missing Icache (caches x.time Icache) (pointers Icache) (record (fetch_item s.pc 0) { how = Commit 0 x.time }) 4 e')
 
-  pub way_below : (cache : Cache) (c : CacheState) (addr : ℕ) → IsCache cache c → 0 < (layout T1 cache).ways → victim_at c addr < (layout T1 cache).ways
-  way_below cache c addr is some =
-      let ways : c.layout.ways ≡ (layout T1 cache).ways = ap (λ g. g.ways) is.layout_is in
-      subst (λ (n : ℕ). victim_at c addr < n) ways
-      (victim_below c addr (subst (λ (n : ℕ). 0 < n) (sym ways) some) (subst (λ (n : ℕ). ArePointers n c.pointers) (sym ways) is.pointers_are))
-
   pub fetch_victim : (cache : Cache) (line : ℕ) → filled_line cache (op.Fetch s.pc (victim_at icache s.pc)) ≡ Some line → Ready phase.Fetch
       → victim_at icache s.pc ≡ victim_of (layout T1 cache) (caches x.time cache) (pointers cache) line
   unfolding victim_at
@@ -213,53 +205,6 @@ module _ (x : Asker) (blocks : x.ram % 65536 ≡ 0) (icache dcache : CacheState)
   pub need_fine : (word : ℕ) → IsShapedNeed x.ram (need_of s (insn_of word) x.ram)
   need_fine word = need_shaped x.ram blocks s (insn_of word)
 
-  pub below : (a z : ℕ) → IsSize z → a + z ≤ x.ram → a < x.ram
-  below a z is l = let some = size_some z is in omega (arith, some, l)
-
-  pub op_fine : (n : Need) (way : ℕ) → IsReading n → IsShapedNeed x.ram n → way < 4 → IsAsked T1 x.ram (op_for n way)
-  op_fine (need.Load a z) way r f w = (
-    record { size_is = f.0.size_is; aligned = f.0.aligned },
-    elim f.1 [ inl l ↦ inl (below a z f.0.size_is l) | inr io ↦ inr io ],
-    w,
-  )
-  op_fine (need.Atomic a z (Swap new)) way r f w = (record { size_is = f.0.size_is; aligned = f.0.aligned }, below a z f.0.size_is f.1)
-  op_fine (need.Atomic a z (Cas expect new)) way r f w = (record { size_is = f.0.size_is; aligned = f.0.aligned }, below a z f.0.size_is f.1)
-  op_fine need.Plain way r f w = absurd r
-  op_fine need.Halt way r f w = absurd r
-  op_fine (need.Trap number) way r f w = absurd r
-  op_fine (need.Store a z p) way r f w = absurd r
-  op_fine (need.Membar mask) way r f w = absurd r
-  op_fine need.Flush way r f w = absurd r
-
-  pub data_victim : (n : Need) (addr : ℕ) → ((a z : ℕ) → n ≡ need.Load a z → a ≡ addr) → IsReading n → (cache : Cache) (line : ℕ) → filled_line cache (op_for n (victim_at dcache addr)) ≡ Some line
-      → dcache ≡ cache_with Dcache (caches x.time Dcache) (pointers Dcache) → asked_way (op_for n (victim_at dcache addr)) ≡ victim_of (layout T1 cache) (caches x.time cache) (pointers cache) line
-  unfolding victim_at
-  data_victim (need.Load a z) addr f r Dcache line e is =
-      let l : line_of Dcache a ≡ line = cc (e) in
-      ap (λ (c : CacheState). victim_at c addr) is
-      ∙ (ap (λ (m : ℕ). victim_of (layout T1 Dcache) (caches x.time Dcache) (pointers Dcache) (line_of Dcache m)) (sym (f a z refl))
-      ∙ ap (λ (n : ℕ). victim_of (layout T1 Dcache) (caches x.time Dcache) (pointers Dcache) n) l)
-  data_victim (need.Load a z) addr f r Icache line e is = let clash : ◌≡◌ {A = Option ℕ} None (Some line) = e in cc
-  data_victim (need.Atomic a z (Swap new)) addr f r cache line e is = let clash : ◌≡◌ {A = Option ℕ} None (Some line) = e in cc
-  data_victim (need.Atomic a z (Cas expect new)) addr f r cache line e is = let clash : ◌≡◌ {A = Option ℕ} None (Some line) = e in cc
-  data_victim need.Plain addr f r cache line e is = absurd r
-  data_victim need.Halt addr f r cache line e is = absurd r
-  data_victim (need.Trap number) addr f r cache line e is = absurd r
-  data_victim (need.Store a z p) addr f r cache line e is = absurd r
-  data_victim (need.Membar mask) addr f r cache line e is = absurd r
-  data_victim need.Flush addr f r cache line e is = absurd r
-
-  pub read_kind : (n : Need) → IsReading n → IsRead (read_item n 0).kind
-  read_kind (need.Load a z) r = refl
-  read_kind (need.Atomic a z (Swap new)) r = refl
-  read_kind (need.Atomic a z (Cas expect new)) r = refl
-  read_kind need.Plain r = absurd r
-  read_kind need.Halt r = absurd r
-  read_kind (need.Trap number) r = absurd r
-  read_kind (need.Store a z p) r = absurd r
-  read_kind (need.Membar mask) r = absurd r
-  read_kind need.Flush r = absurd r
-
   pub data_move : (word addr : ℕ) (n : Need) → need_of s (insn_of word) x.ram ≡ n → IsReading n → ((a z : ℕ) → n ≡ need.Load a z → a ≡ addr)
       → (IsWrite (read_item n 0).kind → ⊥) ⊎ (es ≡ []) → (Ready (phase.Have word) → AskedRow T1 x.ram caches xs (read_item n 0) x.time)
       → Move (phase.Have word) (asked_data x dcache (at_phase (phase.Have word)) addr)
@@ -273,14 +218,14 @@ module _ (x : Asker) (blocks : x.ram % 65536 ≡ 0) (icache dcache : CacheState)
       let row' : Ready (phase.Have word) → AskedRow T1 x.ram caches xs (read_item m 0) x.time =
       subst (λ (k : Need). Ready (phase.Have word) → AskedRow T1 x.ram caches xs (read_item k 0) x.time) (sym e) row in
       asked_move (phase.Have word) (phase.OutData word way x.time) (op_for m way) (read_item m 0) refl refl refl refl (op_reads m way)
-      (op_fine m way reading (need_fine word) (way_below Dcache dcache addr dc (omega arith))) (read_kind m reading) free' row'
-      (λ cache line fills ready. data_victim m addr load' reading cache line fills ready.dcache_is)
+      (op_fine x.ram m way reading (need_fine word) (way_below Dcache dcache addr dc (omega arith))) (read_kind m reading) free' row'
+      (λ cache line fills ready. data_victim dcache (caches x.time) pointers m addr load' reading cache line fills ready.dcache_is)
 
   -- where a load lies
   pub in_ram : (a z : ℕ) → IsShapedNeed x.ram (need.Load a z) → is_io a ≡ false → a < x.ram
   in_ram a z f off =
       elim f.1 [
-        | inl l ↦ below a z f.0.size_is l
+        | inl l ↦ below x.ram a z f.0.size_is l
         | inr io ↦ absurd (let clash : true ≡ false = sym (io_true a io) ∙ off in cc)
       ]
 

@@ -1,7 +1,8 @@
 -- What a cache answers, in the words of the table of places.
-use Rattle.std.proofs.Common.{◌≡◌, ◌<◌, ℕ, ◌+◌, ◌-◌, ◌*◌, ◌%◌, ◌^◌, zero, suc, List, [], ◌∷◌, get_or, Option, Some, None, refl, ap, sym, ◌∙◌, subst, arith}
+use Rattle.std.proofs.Common.{◌≡◌, ℕ, ◌+◌, ◌-◌, ◌%◌, zero, suc, List, [], ◌∷◌, get_or, Option, Some, None, refl, ap, sym, ◌∙◌, subst, arith}
+use Rattle.std.specs.List.{slice_get}
 use Rattle.t1_num.specs.Memory.{IsSize, byte_of, number_at}
-use Rattle.t1_num.proofs.MemoryLaws.{number_at_fits, byte_of_number_at}
+use Rattle.t1_num.proofs.MemoryLaws.{byte_of_number_at}
 use Rattle.t1_shape.specs.Shapes.Shape.{T1}
 use Rattle.t1_shape.specs.Slots.{Line, tag, tags_of, at_slot, slot_of, first_slot}
 use Rattle.t1_shape.proofs.Slots.{Found, slot_some}
@@ -10,7 +11,8 @@ use Rattle.t1_packet.specs.Caches.{layout, width, line_of}
 use Rattle.t1_l1.specs.Cache.{CacheState, way_from, look_of, bytes_of, get_of, read_in, read_of}
 use Rattle.t1_event.specs.declared.item.Item.{Item}
 use Rattle.t1_event.specs.Places.{GotLine, IsMissing}
-use Rattle.t1_core_rule.specs.Fitting.{cache_with, HasBytes}
+use Rattle.t1_core.specs.Replays.{AreByteLines}
+use Rattle.t1_core_rule.specs.Fitting.{cache_with}
 use Rattle.t1_core_rule.proofs.Numbers.{place_in_line}
 
 tag_at : (slots : List (Option Line)) (k : ℕ) → get_or (tags_of slots) k None ≡ tag (get_or slots k None)
@@ -67,14 +69,12 @@ module _ (cache : Cache) (slots : List (Option Line)) (pointers : List ℕ) (add
   unfolding read_of look_of
   read_none e = read_missing slot refl e
 
--- a number that a cache of bytes gave fits its size
-pub read_fits : (cache : Cache) (slots : List (Option Line)) (pointers : List ℕ) (addr size value : ℕ) → HasBytes slots
-    → read_of (cache_with cache slots pointers) addr size ≡ Some value → value < 2 ^ (8 * size)
-read_fits cache slots pointers addr size value bytes e =
-    let r = read_found cache slots pointers addr size value e in
-    subst (λ (v : ℕ). v < 2 ^ (8 * size)) r.value_is (number_at_fits r.line.bytes (addr % width cache) size (bytes r.at r.line r.line_is))
+line_there : (slots : List (Option Line)) (k : ℕ) (line : Line) → get_or slots k None ≡ Some line → slice_get slots k ≡ Some (Some line)
+line_there [] k line e = let clash : ◌≡◌ {A = Option Line} None (Some line) = e in cc
+line_there (s ∷ slots) zero line e = ap (λ (o : Option Line). Some o) e
+line_there (s ∷ slots) (suc k) line e = line_there slots k line e
 
-pub got_line : (cache : Cache) (slots : List (Option Line)) (pointers : List ℕ) (x : Item) → HasBytes slots → IsSize x.size → x.addr % x.size ≡ 0
+pub got_line : (cache : Cache) (slots : List (Option Line)) (pointers : List ℕ) (x : Item) → AreByteLines slots → IsSize x.size → x.addr % x.size ≡ 0
     → read_of (cache_with cache slots pointers) x.addr x.size ≡ Some x.got → GotLine T1 cache slots x
 got_line cache slots pointers x bytes size aligned e =
     let r = read_found cache slots pointers x.addr x.size x.got e in
@@ -83,7 +83,7 @@ got_line cache slots pointers x bytes size aligned e =
       present = ap (at_slot slots) r.slot_is ∙ r.line_is;
       bytes = λ a cov.
           ap (λ (v : ℕ). byte_of v x.size (a - x.addr)) (sym r.value_is)
-          ∙ (byte_of_number_at r.line.bytes (bytes r.at r.line r.line_is) (x.addr % width cache) x.size (a - x.addr) (let p = cov.0 in let q = cov.1 in omega (arith, p, q))
+          ∙ (byte_of_number_at r.line.bytes (bytes r.at r.line (line_there slots r.at r.line r.line_is)) (x.addr % width cache) x.size (a - x.addr) (let p = cov.0 in let q = cov.1 in omega (arith, p, q))
           ∙ ap (λ (i : ℕ). get_or r.line.bytes i 0) (place_in_line cache x.addr x.size a size aligned cov.0 cov.1));
     }
 

@@ -1,7 +1,6 @@
 -- What a buffer answers, in the words of the table of places.
-use Rattle.std.proofs.Common.{◌≡◌, ◌⊎◌, ◌≤◌, ◌<◌, ℕ, ◌+◌, ◌-◌, ◌*◌, ◌/◌, ◌^◌, Bool, true, false, List, [], ◌∷◌, ◌++◌, length, refl, ap, sym, ◌∙◌, subst, suc, inl, inr, nat_le, arith, if◌then◌else◌}
+use Rattle.std.proofs.Common.{◌≡◌, ◌⊎◌, ◌≤◌, ◌<◌, ℕ, ◌+◌, ◌-◌, Bool, true, false, List, [], ◌∷◌, ◌++◌, length, refl, ap, sym, ◌∙◌, subst, suc, inl, inr, nat_le, arith, if◌then◌else◌}
 use Rattle.std.proofs.lemmas.Bool.{and_parts, lt-ltb, leb-true}
-use Rattle.std.proofs.lemmas.Nat.{mod_below, pow_pos}
 use Rattle.t1_num.specs.Memory.{byte_of}
 use Rattle.t1_sbuf.specs.declared.entry.Entry.{Entry}
 use Rattle.t1_sbuf.specs.declared.entry.Look.{Look}
@@ -72,12 +71,6 @@ covers_from es a z v is =
       | inl p ↦ (let c = answer_covers p.0 p.2 a z v (holds_all p.0 a z) refl (sym p.3 ∙ is) in (p.0, p.1, c.0, c.1))
       | inr p ↦ absurd (let q : look.Clear ≡ look.Covers v = sym p.1 ∙ is in cc)
     ]
-
--- and fits its size
-pub covers_fits : (es : List Entry) (a z v : ℕ) → look_of es a z ≡ look.Covers v → v < 2 ^ (8 * z)
-covers_fits es a z v is =
-    let c = covers_from es a z v is in
-    subst (λ (n : ℕ). n < 2 ^ (8 * z)) (sym c.3) (mod_below (c.0.value / 2 ^ (8 * (c.0.addr + c.0.size - (a + z)))) (2 ^ (8 * z)) (pow_pos (8 * z)))
 
 clear_none : (es : List Entry) (a z : ℕ) → look_of es a z ≡ look.Clear → NoneOf es a z
 clear_none es a z is =

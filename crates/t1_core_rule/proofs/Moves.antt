@@ -31,9 +31,10 @@ use Rattle.t1_received.proofs.Sorts.{class_of, class_one, class_none}
 use Rattle.t1_core.specs.declared.asker.Asker.{Asker}
 use Rattle.t1_core.specs.Stores.{AreSent}
 use Rattle.t1_core.specs.Threads.{ThreadState}
+use Rattle.t1_core.specs.Replays.{AreByteLines}
 use Rattle.t1_core_rule.specs.Outs.{stores_out, read_out, outs, asked_of, track_of, AreEntriesOf}
 use Rattle.t1_core_rule.specs.Steady.{AreGoodEntries}
-use Rattle.t1_core_rule.specs.Fitting.{cache_with, HasBytes}
+use Rattle.t1_core_rule.specs.Fitting.{cache_with}
 
 -- ---- at most one event
 
@@ -72,8 +73,8 @@ pub record IsFresh (x : Asker) (r : RequestData) : Type 0 where
 pub record IsReady (x : Asker) (icache dcache : CacheState) (caches : Caches) (pointers : Cache → List ℕ) (t : ThreadState) : Type 0 where
   pub icache_is : icache ≡ cache_with Icache (caches x.time Icache) (pointers Icache)
   pub dcache_is : dcache ≡ cache_with Dcache (caches x.time Dcache) (pointers Dcache)
-  pub icache_bytes : HasBytes (caches x.time Icache)
-  pub dcache_bytes : HasBytes (caches x.time Dcache)
+  pub icache_bytes : AreByteLines (caches x.time Icache)
+  pub dcache_bytes : AreByteLines (caches x.time Dcache)
   pub kept : IsKept one_at_a_time (track_of x.ram x.time t)
   pub entries : AreEntriesOf t.items t.stores
 

@@ -44,6 +44,7 @@ use Rattle.t1_core_rule.specs.Steady.{IsGoodEntry, IsCache}
 use Rattle.t1_core_rule.proofs.Looks.{none_held}
 use Rattle.t1_core_rule.proofs.Moves.{IsReady, IsMove, io_bits, same_move, entries_push}
 use Rattle.t1_core_rule.proofs.Execs as execs
+use Rattle.t1_core_rule.proofs.Asks.{below}
 use Rattle.t1_core_rule.proofs.Pieces.{next_asked, next_reads}
 
 module _ (x : Asker) (blocks : x.ram % 65536 ≡ 0) (icache dcache : CacheState) (ic : IsCache Icache icache) (dc : IsCache Dcache dcache) (caches : Caches) (pointers : Cache → List ℕ)
@@ -103,7 +104,7 @@ module _ (x : Asker) (blocks : x.ram % 65536 ≡ 0) (icache dcache : CacheState)
       let f : IsShapedNeed x.ram (need.Store a z v) = subst (λ (n : Need). IsShapedNeed x.ram n) e (execs.need_fine x blocks icache dcache ic dc caches pointers s es ts xs budget word) in
       let good : IsGoodEntry x.ram (record { item = length xs; addr = a; size = z; value = v; sent = false }) = (
         record { size_is = f.0.size_is; aligned = f.0.aligned },
-        elim f.1 [ inl l ↦ inl (execs.below x blocks icache dcache ic dc caches pointers s es ts xs budget a z f.0.size_is l) | inr io ↦ inr io ],
+        elim f.1 [ inl l ↦ inl (below x.ram a z f.0.size_is l) | inr io ↦ inr io ],
       ) in
       elim (cases_Bool (nat_lt (length es) 8)) [
         | inl g ↦ rw g (execs.stored_move x blocks icache dcache ic dc caches pointers s es ts xs budget word a z v good (ltb-true (length es) 8 g))
@@ -118,7 +119,7 @@ module _ (x : Asker) (blocks : x.ram % 65536 ≡ 0) (icache dcache : CacheState)
       ]
   need_move word (need.Atomic a z o) e =
       let f : IsShapedNeed x.ram (need.Atomic a z o) = subst (λ (n : Need). IsShapedNeed x.ram n) e (execs.need_fine x blocks icache dcache ic dc caches pointers s es ts xs budget word) in
-      let inside : a < x.ram = execs.below x blocks icache dcache ic dc caches pointers s es ts xs budget a z f.0.size_is f.1 in
+      let inside : a < x.ram = below x.ram a z f.0.size_is f.1 in
       execs.empty_move x blocks icache dcache ic dc caches pointers s es ts xs budget word es (plan.Send a)
       (λ none. execs.data_move x blocks icache dcache ic dc caches pointers s es ts xs budget word a (need.Atomic a z o) e tt
       (λ b y q. absurd (let clash : need.Atomic a z o ≡ need.Load b y = q in cc)) (inr none) (λ r. atomic_row o inside (none_are_held word none r)))

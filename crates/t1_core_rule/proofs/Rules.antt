@@ -37,12 +37,13 @@ use Rattle.t1_core.specs.declared.phase.Phase.{Phase}
 use Rattle.t1_core.specs.declared.phase.Phase.TheVariants as phase
 use Rattle.t1_core.specs.Threads.{ThreadState, op_for}
 use Rattle.t1_core.specs.Ends.{trace_of, ending_of}
+use Rattle.t1_core.specs.Replays.{IsReading, ReplaysAt, IsReplayed}
+use Rattle.t1_core.specs.Laws.{starts_of}
 use Rattle.t1_core_rule.specs.Histories.{History, Call}
 use Rattle.t1_core_rule.specs.Outs.{read_out, outs, outs_at}
 use Rattle.t1_core_rule.specs.Parts.{standing_of, state_at, standing_at, waiting_at, sending_at, part_of}
-use Rattle.t1_core_rule.specs.Replays.{IsReading, FollowsIn}
 use Rattle.t1_core_rule.specs.Steady.{IsSteady}
-use Rattle.t1_core_rule.specs.Fitting.{IsFittingThread, IsFitting, start_at}
+use Rattle.t1_core_rule.specs.Fitting.{IsFittingThread, IsFitting}
 use Rattle.t1_core_rule.specs.Laws.{CoresKeepTheirRule, AreWhole, history_of}
 use Rattle.t1_core_rule.proofs.Finds.{items_at, trace_at, stands, there, one_thread, drop_front, distinct_filter, distinct_classes, stored_numbers, stores_distinct, ascends_to}
 use Rattle.t1_core_rule.proofs.Walks.{requests_are_meant, traces_are_of_strands, history_steady}
@@ -70,11 +71,11 @@ awaits b from s items word way (need.Store a z p) r h = absurd r
 awaits b from s items word way (need.Membar mask) r h = absurd r
 awaits b from s items word way need.Flush r h = absurd r
 
-replays : (b : Bounds) (from s : Strand) (items : List Item) (core strand k : ℕ) (p : Phase) → FollowsIn b from s items p → IsReplay b from s items (standing_of core strand b.ram s k p)
+replays : (b : Bounds) (from s : Strand) (items : List Item) (core strand k : ℕ) (p : Phase) → ReplaysAt b from s items p → IsReplay b from s items (standing_of core strand b.ram s k p)
 replays b from s items core strand k phase.Fetch f = f.stands
 replays b from s items core strand k (phase.Have word) f = f
 replays b from s items core strand k (phase.OutFetch way seen) f = f.between.stands
-replays b from s items core strand k (phase.OutData word way seen) f = awaits b from s items word way (need_of s (insn_of word) b.ram) f.reading f.begun
+replays b from s items core strand k (phase.OutData word way seen) f = awaits b from s items word way (need_of s (insn_of word) b.ram) f.reads f.begun
 replays b from s items core strand k (phase.Ended e) f = f
 
 endings : (core strand ram : ℕ) (s : Strand) (k : ℕ) (p : Phase) → ending_at (standing_of core strand ram s k p) ≡ ending_of p
@@ -124,7 +125,7 @@ module _ (config : Config) (image : Image) (core : ℕ) (h : History) where
   abbrev p : CorePart
   p = part_of T1 h
 
-  module _ (s : IsSteady w core h) (f : IsFitting w h) where
+  module _ (s : IsSteady w core h) (f : IsFitting w h) (replayed : IsReplayed (starts_of config h.core.number image.entry) h.core) where
     abbrev number : ℕ
     number = h.core.number
 
@@ -134,7 +135,10 @@ module _ (config : Config) (image : Image) (core : ℕ) (h : History) where
     abbrev threads : List ThreadState
     threads = h.core.threads
 
-    thread : (i : ℕ) (t : ThreadState) → slice_get threads i ≡ Some t → IsFittingThread number ram h.core.time config.budget (start_at w number i) h.received i t
+    abbrev start : ℕ → Strand
+    start = starts_of config number image.entry
+
+    thread : (i : ℕ) (t : ThreadState) → slice_get threads i ≡ Some t → IsFittingThread number ram h.core.time config.budget h.received i t
     thread i t e = f.threads i t e
 
     -- what is unanswered is `rest`
@@ -197,21 +201,20 @@ module _ (config : Config) (image : Image) (core : ℕ) (h : History) where
         by None e y = absurd y
         by (Some t) e y = let v = (thread i t e).kept.orderly.held k y in (v.0, there threads i k v.0 t e v.1, v.2, v.3)
 
-    trace_is : (i : ℕ) (trace : Trace) → slice_get p.traces i ≡ Some trace → IsTraceSoFar (record { ram = ram; budget = config.budget }) (start_at w number i) (p.state i) trace (p.standing i)
+    trace_is : (i : ℕ) (trace : Trace) → slice_get p.traces i ≡ Some trace → IsTraceSoFar (record { ram = ram; budget = config.budget }) (start i) (p.state i) trace (p.standing i)
     trace_is i trace e =
         let q = trace_at threads i trace e in
         let t : ThreadState = q.0 in
-        let g = thread i t q.1 in
-        let follows : FollowsIn (record { ram = ram; budget = config.budget }) (start_at w number i) t.strand (map unplaced t.items) t.phase =
-        subst (λ (n : ℕ). FollowsIn (record { ram = ram; budget = n }) (start_at w number i) t.strand (map unplaced t.items) t.phase) g.budget_is g.follows in
-        let so_far : IsTraceSoFar (record { ram = ram; budget = config.budget }) (start_at w number i) t.strand (trace_of t) (standing_of number i ram t.strand (length t.items) t.phase) = record {
-          replay = replays (record { ram = ram; budget = config.budget }) (start_at w number i) t.strand (map unplaced t.items) number i (length t.items) t.phase follows;
+        let follows : ReplaysAt (record { ram = ram; budget = config.budget }) (start i) t.strand (map unplaced t.items) t.phase =
+        subst (λ (n : ℕ). ReplaysAt (record { ram = ram; budget = n }) (start i) t.strand (map unplaced t.items) t.phase) (thread i t q.1).budget_is (replayed.each i t q.1) in
+        let so_far : IsTraceSoFar (record { ram = ram; budget = config.budget }) (start i) t.strand (trace_of t) (standing_of number i ram t.strand (length t.items) t.phase) = record {
+          replay = replays (record { ram = ram; budget = config.budget }) (start i) t.strand (map unplaced t.items) number i (length t.items) t.phase follows;
           units = refl;
           pc = refl;
           ending = endings number i ram t.strand (length t.items) t.phase;
         } in
-        subst (λ (o : Option ThreadState). IsTraceSoFar (record { ram = ram; budget = config.budget }) (start_at w number i) (state_at o) trace (standing_at number i ram o)) (sym q.1)
-        (subst (λ (x : Trace). IsTraceSoFar (record { ram = ram; budget = config.budget }) (start_at w number i) t.strand x (standing_of number i ram t.strand (length t.items) t.phase)) q.2 so_far)
+        subst (λ (o : Option ThreadState). IsTraceSoFar (record { ram = ram; budget = config.budget }) (start i) (state_at o) trace (standing_at number i ram o)) (sym q.1)
+        (subst (λ (x : Trace). IsTraceSoFar (record { ram = ram; budget = config.budget }) (start i) t.strand x (standing_of number i ram t.strand (length t.items) t.phase)) q.2 so_far)
 
     rule : KeepsRule w number p
     rule = record {
@@ -246,7 +249,7 @@ module _ (config : Config) (image : Image) (core : ℕ) (h : History) where
       few = λ i k x g read. (let q = stands threads i k x g in
           subst (λ (ys : List Item). FewAreHeldIn ys k (at_of x.how)) (sym (items_at threads i q.thread q.at)) ((thread i q.thread q.at).kept.orderly.few k x q.has read));
       ways = λ d r cache line g fills. f.ways r cache line (filter_in (λ (q : RequestData). op_dest T1 q.op == d) r h.sent g).0 fills;
-      follows = λ i trace e. subst (λ (n : ℕ). IsTraceSoFar (record { ram = n; budget = config.budget }) (start_at w number i) (p.state i) trace (p.standing i)) s.ram (trace_is i trace e);
+      follows = λ i trace e. subst (λ (n : ℕ). IsTraceSoFar (record { ram = n; budget = config.budget }) (start i) (p.state i) trace (p.standing i)) s.ram (trace_is i trace e);
     }
 
     pub core_rule : KeepsRule w core p
@@ -262,7 +265,11 @@ core_is T1 config image core calls whole some lines =
     record {
       size = traces_are_of_strands w core calls whole;
       meant = λ d r g. requests_are_meant w core d calls r whole g;
-      kept = λ proper. core_rule config image core (history_of w core calls) (history_steady w core calls whole) (history_fits w core calls whole some lines proper);
+      kept = λ proper.
+          let h : History = history_of w core calls in
+          let s = history_steady w core calls whole in
+          let k = history_fits w core calls whole some lines proper in
+          core_rule config image core h s k.fitting (subst (λ (c : ℕ). IsReplayed (starts_of config c image.entry) h.core) (sym s.number) k.replayed);
     }
 
 pub cores_keep_their_rule : CoresKeepTheirRule

@@ -30,15 +30,14 @@ use Rattle.t1_core.specs.Threads.{ThreadState, op_for}
 use Rattle.t1_core.specs.Steps.{CoreState}
 use Rattle.t1_core.specs.Takes.{killed, Answered, thread_answer, answered_at, take_of}
 use Rattle.t1_core.specs.Takes as takes
+use Rattle.t1_core.specs.Replays.{bare_items, IsReplayed}
 use Rattle.t1_core_rule.specs.Histories.{History, after_take}
 use Rattle.t1_core_rule.specs.Outs.{stores_out, read_out, outs, outs_at}
 use Rattle.t1_core_rule.specs.Steady.{IsSteady}
-use Rattle.t1_core_rule.specs.Fitting.{cache_with, HasBytes, IsMadeBy, IsFittingThread, IsFitting, start_at}
+use Rattle.t1_core_rule.specs.Fitting.{cache_with, IsMadeBy, IsFittingThread, IsFitting}
 use Rattle.t1_core_rule.proofs.Lists.{got_set, put_same, set_less}
 use Rattle.t1_core_rule.proofs.Kills.{with_caches, killed_is}
-use Rattle.t1_core_rule.proofs.Bytes.{packet_bytes}
 use Rattle.t1_core_rule.proofs.Answers.{Answers, reads_in, answer_case}
-use Rattle.t1_core_rule.proofs.Replays.{bare}
 use Rattle.t1_core_rule.proofs.Came.{IsCome, still, read_come}
 use Rattle.t1_core_rule.proofs.Acknowledged.{stored_come}
 use Rattle.t1_core_rule.proofs.Sends.{made_by_moves}
@@ -68,7 +67,8 @@ outs_way number strand ram t true w = w
 outs_way number strand ram t false w = read_way number strand ram t.strand (length t.items) t.phase
 
 module _ (w : Setup) (core : ℕ) (h : History) (p : Packet) (s : IsSteady w core h) (proper : AreProper T1 h.core.number (λ d. sent_to T1 d h.sent) (h.received ++ p ∷ []))
-    (whole : (r : ReplyData) → p.reply ≡ Some r → take 32 r.line ≡ r.line) (f : IsFitting w h) where
+    (whole : (r : ReplyData) → p.reply ≡ Some r → take 32 r.line ≡ r.line) (f : IsFitting w h)
+    (starts : ℕ → Strand) (replayed : IsReplayed starts h.core) where
   abbrev number : ℕ
   number = h.core.number
 
@@ -116,10 +116,6 @@ module _ (w : Setup) (core : ℕ) (h : History) (p : Packet) (s : IsSteady w cor
   pointers_now : (cache : Cache) → pointers_by T1 longer (p.index + 1) cache ≡ pointers_with_packet T1 cache p (pointers cache)
   pointers_now cache = (caches_follow_packets T1 number h.received p).pointers_next h.core.time cache late past_all
 
-  bytes_now : (cache : Cache) → HasBytes (l1_by T1 number longer (p.index + 1) cache)
-  bytes_now cache =
-      subst (λ (l : List (Option Line)). HasBytes l) (sym (slots_now cache)) (packet_bytes number cache p (slots cache) (λ r e. (proper.replies p r here e).line) (f.bytes cache))
-
   ways_now : (r : RequestData) (cache : Cache) (line : ℕ) → IsIn r h.sent → filled_line cache r.op ≡ Some line → asked_way r.op ≡ victim_by T1 number longer r.seen cache line
   ways_now r cache line g fills =
       let past = (s.own r g).past in
@@ -140,8 +136,8 @@ module _ (w : Setup) (core : ℕ) (h : History) (p : Packet) (s : IsSteady w cor
   abbrev After : CoreState → History
   After c = record { core = record c { time = p.index + 1 }; received = longer; sent = h.sent }
 
-  still_fits : (j : ℕ) (t : ThreadState) → slice_get h.core.threads j ≡ Some t → IsFittingThread number ram (p.index + 1) w.config.budget (start_at w number j) longer j t
-  still_fits j t e = still number ram h.core.time w.config.budget (start_at w number j) h.received p late j t (f.threads j t e)
+  still_fits : (j : ℕ) (t : ThreadState) → slice_get h.core.threads j ≡ Some t → IsFittingThread number ram (p.index + 1) w.config.budget longer j t
+  still_fits j t e = still number ram h.core.time w.config.budget h.received p late j t (f.threads j t e)
 
   -- without a reply
   taken_none : p.reply ≡ None → IsFitting w (After left)
@@ -163,7 +159,6 @@ module _ (w : Setup) (core : ℕ) (h : History) (p : Packet) (s : IsSteady w cor
             ];
         dcache = rw (same Dcache, same_p Dcache) refl;
         icache = rw (same Icache, same_p Icache) refl;
-        bytes = bytes_now;
         ways = ways_now;
       }
 
@@ -207,23 +202,22 @@ module _ (w : Setup) (core : ℕ) (h : History) (p : Packet) (s : IsSteady w cor
       case : Answers number ram r.strand p.index r (proper.replies p r here is) (whole r is) (with_kills T1 number Dcache p.kills (slots Dcache)) (pointers Dcache) (with_kills T1 number Icache p.kills (slots Icache))
           (pointers Icache) t a
       case =
-          let g = f.threads r.strand t e in
           answer_case number ram r.strand p.index r (proper.replies p r here is) (whole r is) (with_kills T1 number Dcache p.kills (slots Dcache)) (pointers Dcache) (with_kills T1 number Icache p.kills (slots Icache))
-          (pointers Icache) t first.0 (reads_in (record { ram = ram; budget = t.budget }) (start_at w number r.strand) t.strand (bare t.items) t.phase g.follows) (s.threads r.strand t e).sent first.1
+          (pointers Icache) t first.0 (reads_in (record { ram = ram; budget = t.budget }) (starts r.strand) t.strand (bare_items t.items) t.phase (replayed.each r.strand t e)) (s.threads r.strand t e).sent first.1
 
       sent_time : IsTime h.received r.seen
       sent_time = s.sent_times q is_sent_one
 
       abbrev Come : ThreadState → Type 0
-      Come u = IsCome number ram h.core.time w.config.budget (start_at w number r.strand) h.received p late r is sent_time t u
+      Come u = IsCome number ram h.core.time w.config.budget h.received p late r is sent_time t u
 
       come : Come a.thread
       come =
           elim case.thread [
-            | inl y ↦ read_come number ram h.core.time w.config.budget (start_at w number r.strand) h.received p late r is sent_time t a.thread y.1 (f.threads r.strand t e) y.0
+            | inl y ↦ read_come number ram h.core.time w.config.budget h.received p late r is sent_time t a.thread y.1 (f.threads r.strand t e) y.0
             | inr y ↦
                 let b = y.1 in
-                stored_come number ram h.core.time w.config.budget (start_at w number r.strand) h.received p late r is sent_time t b.entry b.rest b.later b.stores b.times b.op_is b.place (f.threads r.strand t e) y.0
+                stored_come number ram h.core.time w.config.budget h.received p late r is sent_time t b.entry b.rest b.later b.stores b.times b.op_is b.place (f.threads r.strand t e) y.0
                 a.thread b.now
           ]
 
@@ -246,8 +240,8 @@ module _ (w : Setup) (core : ℕ) (h : History) (p : Packet) (s : IsSteady w cor
             threads = λ j v g.
                 elim (got_set h.core.threads r.strand a.thread j v g) [
                   | inl x ↦
-                      subst (λ (k : ThreadState). IsFittingThread number ram (p.index + 1) w.config.budget (start_at w number j) longer j k) x.1
-                      (subst (λ (k : ℕ). IsFittingThread number ram (p.index + 1) w.config.budget (start_at w number k) longer k a.thread) (sym x.0) come.thread)
+                      subst (λ (k : ThreadState). IsFittingThread number ram (p.index + 1) w.config.budget longer j k) x.1
+                      (subst (λ (k : ℕ). IsFittingThread number ram (p.index + 1) w.config.budget longer k a.thread) (sym x.0) come.thread)
                   | inr x ↦ still_fits j v x.1
                 ];
             replies = λ x y g is_y.
@@ -263,7 +257,6 @@ module _ (w : Setup) (core : ℕ) (h : History) (p : Packet) (s : IsSteady w cor
                 ];
             dcache = case.caches.dcache ∙ rw (same Dcache, same_p Dcache) refl;
             icache = case.caches.icache ∙ rw (same Icache, same_p Icache) refl;
-            bytes = bytes_now;
             ways = ways_now;
           }
 

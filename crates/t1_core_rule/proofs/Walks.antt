@@ -1,14 +1,13 @@
 -- Every history of a core keeps what a core keeps whatever packets come.
-use Rattle.std.proofs.Common.{◌≡◌, ◌≤◌, ◌<◌, ℕ, ◌+◌, ◌*◌, ◌%◌, ◌^◌, ◌==◌, ◌||◌, nat_lt, zero, suc, ◌-◌, true, false, List, [], ◌∷◌, length, Option, Some, None, refl, ap, sym, ◌∙◌, subst, inl, inr, arith}
+use Rattle.std.proofs.Common.{◌≡◌, ◌≤◌, ◌<◌, ℕ, ◌+◌, ◌*◌, ◌%◌, ◌==◌, zero, suc, List, [], ◌∷◌, length, Option, Some, None, refl, ap, sym, ◌∙◌, subst, inl, arith}
 use Rattle.std.specs.List.{slice_get}
-use Rattle.std.proofs.lemmas.Bool.{cases_Bool, eqb-true, ltb-false}
+use Rattle.std.proofs.lemmas.Bool.{eqb-true}
 use Rattle.std.proofs.lemmas.List.{length-map}
 use Rattle.t1_shape.specs.Shapes.{Shape}
 use Rattle.t1_shape.specs.Shapes.Shape.{T1}
 use Rattle.t1_packet.specs.declared.cache.Cache.{Cache}
 use Rattle.t1_packet.specs.declared.cache.Cache.TheVariants.{Dcache, Icache}
 use Rattle.t1_packet.specs.Caches.{layout, width}
-use Rattle.t1_packet.specs.declared.packet.Packet.{Packet}
 use Rattle.t1_packet.specs.Data.{RequestData}
 use Rattle.t1_packet.specs.Ops.{op_dest}
 use Rattle.t1_l1.specs.Cache.{empty_cache}
@@ -20,15 +19,15 @@ use Rattle.t1_joint.specs.CoreRule.{IsAsked, IsMeant}
 use Rattle.t1_received.specs.Requests.{sent_to}
 use Rattle.t1_received.proofs.Lists.{filter_in}
 use Rattle.t1_core.specs.Threads.{ThreadState}
-use Rattle.t1_core.specs.Steps.{CoreState, exec_at, exec_of, drain_at, drain_of}
-use Rattle.t1_core.specs.Takes.{take_of}
 use Rattle.t1_core.specs.Ends.{trace_of}
 use Rattle.t1_core.specs.Start.{first_thread, threads_from, new_core}
-use Rattle.t1_core_rule.specs.Histories.{History, Call, Exec, Drain, Take, after_call, after_calls, begun}
+use Rattle.t1_core.proofs.Joined.{times_rise}
+use Rattle.t1_core_rule.specs.Histories.{History, Call, Exec, Turn, Drain, Take, after_call, after_calls, begun}
 use Rattle.t1_core_rule.specs.Steady.{IsCache, IsThread, IsSteady}
 use Rattle.t1_core_rule.specs.Laws.{RequestsAreMeant, PacketsArePast, ClocksGoOn, TracesAreOfStrands, history_of}
 use Rattle.t1_core_rule.proofs.Steadies.{exec_steady, drain_steady}
 use Rattle.t1_core_rule.proofs.Taken.{take_steady}
+use Rattle.t1_core_rule.proofs.Turns.{turn_keeps, turn_steady}
 
 -- ---- the start
 
@@ -73,6 +72,7 @@ start_steady w core = record {
 
 pub call_steady : (w : Setup) (core : ℕ) (h : History) (call : Call) → w.config.ram % 65536 ≡ 0 → IsSteady w core h → IsSteady w core (after_call h call)
 call_steady w core h (Exec i room) whole s = exec_steady w core h i room whole s
+call_steady w core h (Turn room) whole s = turn_steady w core h room whole s
 call_steady w core h (Drain i room) whole s = drain_steady w core h i room whole s
 call_steady w core h (Take p) whole s = take_steady w core h p s
 
@@ -103,41 +103,12 @@ requests_are_meant w core dest calls r whole g = meant w core dest w.shape refl 
 pub packets_are_past : PacketsArePast
 packets_are_past w core calls p whole g = (history_steady w core calls whole).past p g
 
-exec_time : (c : CoreState) (i room : ℕ) → (exec_of c i room).core.time ≡ c.time
-unfolding exec_of
-exec_time c i room = by (slice_get c.threads i)
-  where
-    by : (o : Option ThreadState) → (exec_at c i room o).core.time ≡ c.time
-    by None = refl
-    by (Some t) = refl
-
-drain_time : (c : CoreState) (i room : ℕ) → (drain_of c i room).core.time ≡ c.time
-unfolding drain_of
-drain_time c i room = by (slice_get c.threads i)
-  where
-    by : (o : Option ThreadState) → (drain_at c i room o).core.time ≡ c.time
-    by None = refl
-    by (Some t) = refl
-
-take_time : (c : CoreState) (p : Packet) → c.time ≤ (take_of c p).time
-unfolding take_of
-take_time c p =
-    elim (cases_Bool (nat_lt p.index c.time || (p.index == 2 ^ 32 - 1))) [
-      | inl e ↦ rw e (omega arith)
-      | inr e ↦ rw e (late e)
-    ]
-  where
-    late : (nat_lt p.index c.time || (p.index == 2 ^ 32 - 1)) ≡ false → c.time ≤ p.index + 1
-    late e =
-        elim (cases_Bool (nat_lt p.index c.time)) [
-          | inl l ↦ absurd (let now : true ≡ false = rw l at e in cc)
-          | inr l ↦ (let b = ltb-false p.index c.time l in omega (arith, b))
-        ]
-
 rises : (h : History) (call : Call) → h.core.time ≤ (after_call h call).core.time
-rises h (Exec i room) = let e = exec_time h.core i room in omega (arith, e)
-rises h (Drain i room) = let e = drain_time h.core i room in omega (arith, e)
-rises h (Take p) = take_time h.core p
+rises h (Exec i room) = let e = (times_rise.same h.core i room).0 in omega (arith, e)
+rises h (Turn room) =
+    turn_keeps (λ k. h.core.time ≤ k.core.time) h room (omega arith) (λ i. (let e = (times_rise.same h.core i room).0 in omega (arith, e))) (λ i turns l. l)
+rises h (Drain i room) = let e = (times_rise.same h.core i room).1 in omega (arith, e)
+rises h (Take p) = times_rise.later h.core p
 
 pub clocks_go_on : ClocksGoOn
 clocks_go_on w core calls call whole = record { is_time = (history_steady w core calls whole).time; rises = rises (history_of w core calls) call }

@@ -1,7 +1,6 @@
 -- Caches as their slots and pointers; and what a core keeps where the packets that came are proper.
-use Rattle.std.specs.Prelude.{ℕ, ◌≡◌, ◌+◌, ◌*◌, ◌++◌, Bool, List, get_or, Option, Some, None}
+use Rattle.std.specs.Prelude.{ℕ, ◌≡◌, ◌++◌, Bool, List, Option, Some}
 use Rattle.std.specs.List.{slice_get}
-use Rattle.t1_num.specs.MemoryLaws.{AreBytes}
 use Rattle.t1_shape.specs.Shapes.Shape.{T1}
 use Rattle.t1_shape.specs.Slots.{Line}
 use Rattle.t1_packet.specs.declared.cache.Cache.{Cache}
@@ -10,14 +9,13 @@ use Rattle.t1_packet.specs.Caches.{layout, width, filled_line}
 use Rattle.t1_packet.specs.declared.packet.Packet.{Packet}
 use Rattle.t1_packet.specs.Data.{RequestData, ReplyData}
 use Rattle.t1_packet.specs.Ops.{asked_way}
-use Rattle.t1_state.specs.declared.strand.Strand.{Strand}
 use Rattle.t1_l1.specs.Cache.{CacheState}
 use Rattle.t1_event.specs.declared.item.Item.{Item}
 use Rattle.t1_event.specs.declared.item.How.TheVariants.{Commit}
 use Rattle.t1_event.specs.Kinds.{IsAccess}
 use Rattle.t1_event.specs.Times.{at_of}
 use Rattle.t1_joint.specs.Lists.{IsIn}
-use Rattle.t1_joint.specs.Start.{Setup, start_in}
+use Rattle.t1_joint.specs.Start.{Setup}
 use Rattle.t1_joint.specs.Parts.{answered}
 use Rattle.t1_joint.specs.Proper.{IsTime, l1_by, pointers_by, victim_by}
 use Rattle.t1_joint.specs.Waits.{HasItem}
@@ -30,14 +28,9 @@ use Rattle.t1_received.specs.Caches.{slots_by}
 use Rattle.t1_core.specs.Threads.{ThreadState}
 use Rattle.t1_core_rule.specs.Histories.{History}
 use Rattle.t1_core_rule.specs.Outs.{stores_out, outs_at, track_of, AreEntriesOf}
-use Rattle.t1_core_rule.specs.Replays.{FollowsSoFar}
 
 abbrev pub cache_with : Cache → List (Option Line) → List ℕ → CacheState
 cache_with cache slots pointers = record { layout = layout T1 cache; width = width cache; slots = slots; pointers = pointers }
-
--- each line that a slot holds is of bytes
-abbrev pub HasBytes : List (Option Line) → Type 0
-HasBytes slots = (slot : ℕ) (line : Line) → get_or slots slot None ≡ Some line → AreBytes line.bytes
 
 -- the item that a reply made, or placed, stands where it says
 pub record IsMadeBy (threads : List ThreadState) (index : ℕ) (reply : ReplyData) : Type 0 where
@@ -48,8 +41,8 @@ pub record IsMadeBy (threads : List ThreadState) (index : ℕ) (reply : ReplyDat
   pub access : IsAccess item.kind
   pub how : item.how ≡ Commit index reply.seen
 
--- one strand of the core of this number, over the packets that came, with its start and the units of its run
-pub record IsFittingThread (number ram clock budget : ℕ) (from : Strand) (received : List Packet) (strand : ℕ) (t : ThreadState) : Type 0 where
+-- one strand of the core of this number, over the packets that came, with the units of its run
+pub record IsFittingThread (number ram clock budget : ℕ) (received : List Packet) (strand : ℕ) (t : ThreadState) : Type 0 where
   pub budget_is : t.budget ≡ budget
   -- program order, times and places
   pub kept : IsKept one_at_a_time (track_of ram clock t)
@@ -59,11 +52,6 @@ pub record IsFittingThread (number ram clock budget : ℕ) (from : Strand) (rece
   -- what it has out, and what answered it
   pub way : (d : ℕ) × GoTo T1 d (stores_out number strand t.stores t.times)
   pub came : (k n seen : ℕ) (x : Item) → HasItem t.items k x → x.how ≡ Commit n seen → HasCome received strand k n seen x
-  -- it is its replay so far
-  pub follows : FollowsSoFar ram from t
-
-abbrev pub start_at : Setup → ℕ → ℕ → Strand
-start_at w core strand = start_in w.config w.image.entry (core * w.config.strands + strand)
 
 pub record IsFitting (w : Setup) (h : History) : Type 0 where
   -- the requests without a reply, by destination, are what the strands have out
@@ -71,12 +59,11 @@ pub record IsFitting (w : Setup) (h : History) : Type 0 where
   pub are : (d : ℕ) → answered T1 h.core.number d h.received ++ rest d ≡ sent_to T1 d h.sent
   pub out : (s : ℕ) (stores : Bool) (d : ℕ) → of_class s stores (rest d) ≡ sent_to T1 d (outs_at h.core.number s h.core.ram stores (slice_get h.core.threads s))
   pub threads : (s : ℕ) (t : ThreadState) → slice_get h.core.threads s ≡ Some t
-      → IsFittingThread h.core.number h.core.ram h.core.time w.config.budget (start_at w h.core.number s) h.received s t
+      → IsFittingThread h.core.number h.core.ram h.core.time w.config.budget h.received s t
   pub replies : (packet : Packet) (reply : ReplyData) → IsIn packet h.received → packet.reply ≡ Some reply → IsMadeBy h.core.threads packet.index reply
-  -- the caches are those of the packets, with lines of bytes
+  -- the caches are those of the packets
   pub dcache : h.core.dcache ≡ cache_with Dcache (l1_by T1 h.core.number h.received h.core.time Dcache) (pointers_by T1 h.received h.core.time Dcache)
   pub icache : h.core.icache ≡ cache_with Icache (l1_by T1 h.core.number h.received h.core.time Icache) (pointers_by T1 h.received h.core.time Icache)
-  pub bytes : (cache : Cache) → HasBytes (l1_by T1 h.core.number h.received h.core.time cache)
   -- a fetch or load asked for the victim of its cache
   pub ways : (r : RequestData) (cache : Cache) (line : ℕ) → IsIn r h.sent → filled_line cache r.op ≡ Some line
       → asked_way r.op ≡ victim_by T1 h.core.number h.received r.seen cache line

@@ -10,7 +10,7 @@ use Rattle.t1_joint.specs.Proper.{IsTime, AreProper, l1_by, pointers_by}
 use Rattle.t1_received.specs.Requests.{sent_to}
 use Rattle.t1_core_rule.specs.Fitting.{cache_with}
 use Rattle.t1_joint.specs.CoreRule.{IsMeant, IsCore}
-use Rattle.t1_core_rule.specs.Histories.{History, Call, Exec, Drain, Take, after_call, after_calls, begun}
+use Rattle.t1_core_rule.specs.Histories.{History, Call, Exec, Turn, Drain, Take, after_call, after_calls, begun}
 use Rattle.t1_core_rule.specs.Parts.{part_of}
 
 -- what a core was at any time of its run
@@ -20,12 +20,19 @@ history_of w core calls = after_calls (begun w core) calls
 -- the line of a reply has at most 32 bytes, as its type says
 abbrev pub IsWholeCall : Call → Type 0
 IsWholeCall (Exec strand room) = Unit {0}
+IsWholeCall (Turn room) = Unit {0}
 IsWholeCall (Drain strand room) = Unit {0}
 IsWholeCall (Take packet) = (reply : ReplyData) → packet.reply ≡ Some reply → length reply.line ≤ 32
 
 abbrev pub AreWhole : List Call → Type 0
 AreWhole [] = Unit {0}
 AreWhole (call ∷ calls) = IsWholeCall call × AreWhole calls
+
+-- a core with what came to it and what it sent, as calls like these leave it
+pub record IsHistory (w : Setup) (core : ℕ) (h : History) : Type 0 where
+  pub calls : List Call
+  pub whole : AreWhole calls
+  pub is : history_of w core calls ≡ h
 
 -- RAM is of whole blocks of 64 KiB
 abbrev pub IsWhole : Setup → Type 0

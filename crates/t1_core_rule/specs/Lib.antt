@@ -1,7 +1,6 @@
 pub mod Histories
 pub mod Parts
 pub mod Outs
-pub mod Replays
 pub mod Steady
 pub mod Fitting
 pub mod Laws

@@ -5,8 +5,9 @@ use Rattle.t1_core.specs.declared.answers.Did.TheVariants as did
 use Rattle.t1_core.specs.Steps.{CoreState}
 use Rattle.t1_core.specs.Turns.{is_ready}
 use Rattle.t1_core.specs.Told.{ActedAt}
+use Rattle.t1_core.specs.Quick.{IsWait}
 use Rattle.t1_core.proofs.Quiet.{exec_quiet}
-use Rattle.t1_core.proofs.Turning.{acted_from, one_passed}
+use Rattle.t1_core.proofs.Turning.{acted_from, wait_passed}
 use Rattle.t1_core.proofs.sparc_core.Core.act_first.Goals as goal
 
 pub returns-in-Moved-clause-some : goal.returns-in-Moved-clause-some
@@ -41,5 +42,5 @@ loop-place-preserved c =
       same = back ∙ inv.same;
       count = inv.count ∙ ap (λ (k : CoreState). length k.turns) (sym back);
       none = λ k l. subst (λ (m : CoreState). is_ready m c.args.room (get_or m.turns k 0) ≡ false) (sym back)
-          (one_passed s c.args.room c.loop-place.place c.at-strand.result c.in-Waits.field-0 at inv.none (sym c.in-Waits.ensures.did) k l);
+          (wait_passed s c.args.room c.loop-place.place c.at-strand.result at inv.none (subst IsWait c.in-Waits.ensures.did tt) k l);
     }
