@@ -1,6 +1,3 @@
-pub mod Rings
-pub mod Slots
-pub mod Machine
-pub mod Runs
-pub mod Start
-pub mod Pushes
+pub mod Rooms
+pub mod Sets
+pub mod Chips

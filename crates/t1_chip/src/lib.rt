@@ -1,16 +1,12 @@
-//! The serial machine: cores, destinations and the crossbar, joined by rings, one slot at a time.
+//! The chip: the serial machine with its room, run by a schedule until nothing can act.
 #![tactic(auto)]
 
-mod machine;
-pub mod ring;
-mod rooms;
-pub mod schedule;
-pub mod slot;
-mod start;
+mod chip;
+mod report;
+#[cfg(test)]
+mod schedule_tests;
+mod slot_set;
 #[cfg(test)]
 mod tests;
 
-pub use machine::Machine;
-pub use ring::Ring;
-pub use schedule::Schedule;
-pub use slot::{SLOTS, Slot, slot_at};
+pub use chip::{Chip, Step};

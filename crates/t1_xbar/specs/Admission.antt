@@ -1,6 +1,6 @@
 -- Admission: an access gets the next index of the log, and its packets are posted; or nothing changes
 -- (OpenSPARC T1 Microarchitecture Specification, chapter 3).
-use Rattle.std.specs.Prelude.{ℕ, zero, suc, ◌≡◌, ◌+◌, ◌/◌, ◌%◌, ◌^◌, ◌==◌, nat_lt, Bool, if◌then◌else◌, List, [], ◌∷◌, ◌++◌, length, Option, Some, None, Result, Ok, Err}
+use Rattle.std.specs.Prelude.{ℕ, zero, suc, ◌≡◌, ◌+◌, ◌/◌, ◌%◌, ◌^◌, ◌==◌, nat_lt, Bool, true, false, if◌then◌else◌, List, [], ◌∷◌, ◌++◌, length, Option, Some, None, Result, Ok, Err}
 use Rattle.t1_packet.specs.declared.packet.Packet.{Packet}
 use Rattle.t1_packet.specs.declared.served.Served.{Served}
 use Rattle.t1_packet.specs.Packets.{packet_to}
@@ -61,6 +61,11 @@ unfoldable pub admission : XbarState → ℕ → Served → ℕ → Admission
 admission x dest served rooms =
     if nat_lt (length x.log) served.request.seen then record { xbar = x; answer = NotSeen served.request.seen (length x.log) }
     else admitted_unless x dest served (full_from rooms (length x.log) served 0 x.cores)
+
+abbrev pub is_done : Admitted → Bool
+is_done (Done index posts) = true
+is_done (NotSeen seen len) = false
+is_done (NoRoom core) = false
 
 -- what is not done changes nothing
 abbrev pub StaysUnlessDone : {A : Type 0} → A → A → Admitted → Type 0

@@ -1,6 +1,6 @@
 //! The crossbar.
 ghost use Rattle.std.specs.Prelude.{ℕ, ◌≡◌, ◌+◌, ◌-◌, ◌*◌, ◌/◌, ◌%◌, ◌^◌, ◌<◌, ◌≤◌, ◌++◌, ◌∷◌, [], length, IfOk, Some, None, OnOk, OnErr, Ok, Err};
-ghost use Rattle.t1_xbar.specs.Admission.{XbarState, posts_from, full_from, admission, admitted_unless, has_room, posts_or_full, StaysUnlessDone};
+ghost use Rattle.t1_xbar.specs.Admission.{XbarState, posts_from, full_from, admission, admitted_unless, has_room, posts_or_full, is_done, StaysUnlessDone};
 
 use crate::admitted::{Admitted, Post};
 use crate::posts::Posts;
@@ -115,6 +115,21 @@ impl Xbar {
                     .push_reserved(commit_of(self.strands, dest, served));
                 Admitted::Done { index, posts }
             }
+        }
+    }
+
+    /// Whether `admit` would admit the access.
+    #[tactic(auto, unfolding(crate::specs::Admission::admission))]
+    pub fn would_admit(&self, dest: u8, served: &Served, rooms: u8) -> bool
+        ensures { result ≡ is_done (admission self.now dest served.now rooms).answer }
+    {
+        let index = self.len();
+        if index < served.request.seen {
+            return false;
+        }
+        match posts_of(index, served, self.cores, rooms) {
+            Err(_) => false,
+            Ok(_) => true,
         }
     }
 }

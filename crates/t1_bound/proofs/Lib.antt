@@ -1,0 +1,12 @@
+pub mod Units
+pub mod Lists
+pub mod Pays
+pub mod Execs
+pub mod Cores
+pub mod Takes
+pub mod Admits
+pub mod Slots
+pub mod Starts
+pub mod Reach
+pub mod Bound
+pub mod Ends

@@ -1,0 +1,4 @@
+pub mod Weights
+pub mod Sound
+pub mod Runs
+pub mod Laws

@@ -1,0 +1,14 @@
+use Rattle.std.proofs.Common.{◌<◌}
+use Rattle.t1_machine.specs.Runs.{Turns}
+use Rattle.t1_bound.specs.Weights.{machine_weight, steps}
+use Rattle.t1_chip.specs.Chips.{ChipState, MovesTo}
+use Rattle.t1_chip.proofs.chip.Chip.run_turns.Given as goal
+
+abbrev pub invariant-loop-number : goal.invariant-loop-number
+invariant-loop-number l = record {
+  within : l.from < 58;
+  rest : (end : ChipState) → MovesTo l.self (Turns l.from) end → MovesTo l.initial.self (Turns 0) end;
+}
+
+abbrev pub decreases-loop-number : goal.decreases-loop-number
+decreases-loop-number l = machine_weight steps l.self.machine

@@ -1,0 +1,307 @@
+//! The chip.
+ghost use Rattle.std.specs.Prelude.{ℕ, ◌≡◌, ◌+◌, ◌<◌, ◌≤◌, length, IfSome, IfOk, IsTrue, ◌↔◌, Some, None, true, false};
+ghost use Rattle.t1_num.specs.MemoryLaws.{AreBytes};
+ghost use Rattle.t1_shape.specs.Shapes.Shape.{T1};
+ghost use Rattle.t1_machine.specs.declared.schedule.Schedule.TheVariants as schedule;
+ghost use Rattle.t1_machine.specs.Slots.{slot_at};
+ghost use Rattle.t1_machine.specs.Machine.{after_slot, is_enabled};
+ghost use Rattle.t1_machine.specs.Waits.{wait_at};
+ghost use Rattle.t1_machine.specs.Runs.{enabled_from, next_number, tries, Turns, Seed};
+ghost use Rattle.rand_xoshiro.specs.SplitMix64.{mix_u64};
+ghost use Rattle.t1_machine.specs.Start.{IsRunnable, setup_of, machine_start};
+ghost use Rattle.t1_bound.specs.Weights.{machine_weight, steps};
+ghost use Rattle.t1_machine_rule.specs.Stands.{Stands};
+ghost use Rattle.t1_machine_rule.specs.Ends.{NoneEnabled, Ends, Reports};
+ghost use Rattle.t1_chip.specs.Chips.{ChipState, is_done, after_found, wrapped, MovesTo, RunsToEnd, Reported};
+
+use crate::report::{Room, put_console, put_traces, room_for};
+use crate::slot_set::{ALL, with_woken, without_slot};
+use rand_core::SeedableRng;
+use rand_core::utils::NextWord;
+use rand_xoshiro::SplitMix64;
+use std::alloc::{AllocError, Global};
+use std::marker::Model;
+use t1_core::Wait;
+use t1_elf::{Image, Listed};
+use t1_event::{Config, Report};
+use t1_machine::{Machine, SLOTS, Schedule, slot_at};
+use t1_order::order_of;
+
+/// What came of a slot.
+#[derive(Clone, Copy, Debug, PartialEq, Eq)]
+pub enum Step {
+    /// It was enabled, and is done.
+    Done,
+    /// It was not enabled, and nothing changed.
+    Idle,
+}
+
+/// The chip: cores, caches, banks, crossbar and rings, with all the memory of a run and of its report.
+///
+/// It is seen as its configuration and image, and its machine. A list of slots leads to the machine
+/// from its start; a slot outside the set `maybe` is not enabled.
+#[derive(Drop)]
+pub struct Chip {
+    config: Config,
+    image: Image,
+    machine: Machine,
+    maybe: u64,
+    room: Room,
+}
+
+impl Model for Chip {
+    ghost use Rattle.t1_machine.specs.Start.{setup_of};
+    ghost use Rattle.t1_machine_rule.specs.Stands.{IsRunOf};
+    ghost use Rattle.t1_chip.specs.Chips.{ChipState};
+    ghost use Rattle.t1_chip.specs.Sets.{AreClear};
+    ghost use Rattle.t1_chip.specs.Rooms.{IsRoomFor};
+    ghost use Rattle.std.specs.Prelude.{vec_capacity};
+
+    ghost Value = { ChipState };
+
+    ghost view = { λ c. record { setup = setup_of c.config c.image; machine = c.machine } };
+
+    ghost invariant = { λ c. IsRunOf (setup_of c.config c.image) c.machine × AreClear c.machine c.maybe
+        × IsRoomFor c.config c.room.traces.items c.room.order.items c.room.console.items (vec_capacity c.room.traces) (vec_capacity c.room.order) (vec_capacity c.room.console) };
+}
+
+/// The number after one, cyclically.
+fn next_number(number: u8) -> u8
+    requires { number < 58 }
+    ensures value { result ≡ next_number number }
+    ensures within { result < 58 }
+{
+    if number + 1 == SLOTS { 0 } else { number + 1 }
+}
+
+/// The first number in place of the one past the last.
+fn wrapped(number: u8) -> u8
+    requires { number ≤ 58 }
+    ensures value { result ≡ wrapped number }
+    ensures within { result < 58 }
+{
+    if number == SLOTS { 0 } else { number }
+}
+
+/// What is stored in bytes is below 256.
+fn are_bytes(image: &[u8])
+    ensures { AreBytes image.now }
+{
+    let _ = image;
+}
+
+impl Chip {
+    /// The chip at its start, with all the memory of its run.
+    #[tactic(auto, using(crate::proofs::Reached::reached_start, crate::proofs::Sets::all_clear))]
+    pub fn build(alloc: Global, config: &Config, image: Image) -> Result<Chip, AllocError>
+        requires { IsRunnable (setup_of config.now image) }
+        ensures { IfOk result (λ c. c ≡ record { setup = setup_of config.now image; machine = machine_start (setup_of config.now image) }) }
+    {
+        are_bytes(image.ram.as_slice());
+        let machine = Machine::new(alloc, config, &image)?;
+        let room = room_for(alloc, config)?;
+        Ok(Chip {
+            config: *config,
+            image,
+            machine,
+            maybe: ALL,
+            room,
+        })
+    }
+
+    /// Does a slot, where it is enabled: whether it was.
+    fn attempt(&mut self, number: u8) -> bool
+        requires { number < 58 }
+        ensures state { self.new ≡ record self.old { machine = after_slot self.old.machine (slot_at T1 number) } }
+        ensures done { result ≡ is_enabled self.old.machine (slot_at T1 number) }
+        ensures falls { result ≡ true → machine_weight steps self.new.machine < machine_weight steps self.old.machine }
+    {
+        match self.machine.step(slot_at(number)) {
+            None => {
+                self.maybe = without_slot(self.maybe, number);
+                false
+            }
+            Some(woken) => {
+                self.maybe = with_woken(self.maybe, woken);
+                true
+            }
+        }
+    }
+
+    /// Does the slot of a number: Idle exactly where it is not enabled, and then nothing changes.
+    pub fn step(&mut self, number: u8) -> Step
+        requires { number < 58 }
+        ensures state { self.new ≡ record self.old { machine = after_slot self.old.machine (slot_at T1 number) } }
+        ensures done { is_done result ≡ is_enabled self.old.machine (slot_at T1 number) }
+    {
+        if self.attempt(number) {
+            Step::Done
+        } else {
+            Step::Idle
+        }
+    }
+
+    /// Whether a slot is enabled.
+    pub fn enabled(&self, number: u8) -> bool
+        requires { number < 58 }
+        ensures { result ≡ is_enabled self.now.machine (slot_at T1 number) }
+    {
+        self.machine.enabled(slot_at(number))
+    }
+
+    /// Why a strand of a core would wait now; none exactly where it would not.
+    pub fn wait_of(&self, core: u8, strand: u8) -> Option<Wait>
+        ensures { result ≡ wait_at self.now.machine core strand }
+    {
+        self.machine.wait_of(core, strand)
+    }
+
+    /// Whether no slot is enabled.
+    pub fn finished(&self) -> bool
+        ensures { IsTrue result ↔ NoneEnabled self.now.machine }
+    {
+        for number in 0..SLOTS {
+            if self.enabled(number) {
+                return false;
+            }
+        }
+        true
+    }
+
+    /// How many slots from one on, up to the last, are not in the set.
+    fn clear_from(&self, number: u8) -> u8
+        requires { number < 58 }
+        ensures within { number + result ≤ 58 }
+        ensures clear { (i : ℕ) → i < result → is_enabled self.now.machine (slot_at T1 (number + i)) ≡ false }
+    {
+        let above = self.maybe >> number;
+        if above == 0 {
+            return 58 - number;
+        }
+        let gap = above.trailing_zeros() as u8;
+        if gap > 58 - number {
+            return 58 - number;
+        }
+        gap
+    }
+
+    /// Does the first slot that is enabled, cyclically from one on: its number.
+    fn next(&mut self, from: u8) -> Option<u8>
+        requires { from < 58 }
+        ensures found { result ≡ enabled_from self.old.machine from 58 }
+        ensures state { self.new ≡ record self.old { machine = after_found self.old.machine result } }
+        ensures within { IfSome result (λ number. number < 58) }
+        ensures falls { IfSome result (λ number. machine_weight steps self.new.machine < machine_weight steps self.old.machine) }
+    {
+        let mut number = from;
+        let mut left = 58;
+        while left > 0 {
+            let clear = self.clear_from(number);
+            if clear >= left {
+                return None;
+            }
+            if clear > 0 {
+                left -= clear;
+                number = wrapped(number + clear);
+                continue;
+            }
+            if self.attempt(number) {
+                return Some(number);
+            }
+            left -= 1;
+            number = next_number(number);
+        }
+        None
+    }
+
+    /// What holds after every list of slots: the parts fit, so that each core keeps its rule and each
+    /// strand is its replay so far; the caches with the packets in flight are what the directories show;
+    /// each request without a reply stands in one ring; and no access is served too early to be admitted.
+    pub fn stands(&self)
+        ensures { Stands self.now.setup self.now.machine }
+    {
+        let _maybe = self.maybe;
+    }
+
+    /// Where no slot is enabled, every strand has ended, every buffer and ring is empty, and the traces
+    /// and the log are a joint history.
+    pub fn ends(&self)
+        requires { NoneEnabled self.now.machine }
+        ensures { Ends self.now.setup self.now.machine }
+    {
+        let _maybe = self.maybe;
+    }
+
+    /// The report of a run in which no slot is enabled any more: the traces of all strands, core by core,
+    /// the log, the memory order, which obeys total store order, and the bytes that reached the console.
+    /// Takes no memory.
+    pub fn into_report(self) -> Report
+        requires { NoneEnabled self.machine }
+        ensures report { Reported self result }
+        ensures obeys { Reports self.setup self.machine result.order }
+    {
+        let Chip {
+            config,
+            image,
+            machine,
+            maybe: _,
+            room,
+        } = self;
+        let Room {
+            mut traces,
+            mut order,
+            mut console,
+        } = room;
+        let (cores, log) = machine.into_parts();
+        put_traces(cores, &mut traces);
+        order_of(&traces, &log, &mut order);
+        put_console(&log, &mut console);
+        Report {
+            config,
+            image,
+            traces: Listed::from_vec(traces),
+            log: Listed::from_vec(log),
+            order: Listed::from_vec(order),
+            console: Listed::from_vec(console),
+        }
+    }
+
+    fn run_turns(&mut self)
+        ensures machine { MovesTo self.old (Turns 0) self.new }
+        ensures finished { NoneEnabled self.new.machine }
+    {
+        let mut from = 0;
+        while let Some(number) = self.next(from) {
+            from = next_number(number);
+        }
+    }
+
+    fn run_seed(&mut self, seed: u64)
+        ensures machine { MovesTo self.old (Seed seed) self.new }
+        ensures finished { NoneEnabled self.new.machine }
+    {
+        let mut words = SplitMix64::from_seed(seed.to_le_bytes());
+        while let Some(_) = self.next(first_tried(&mut words)) {}
+    }
+
+    /// Does slots by a schedule until none is enabled. Returns after at most 24 slots for each unit that
+    /// the budgets allow.
+    pub fn run(&mut self, schedule: Schedule)
+        ensures machine { RunsToEnd self.old schedule self.new }
+        ensures finished { NoneEnabled self.new.machine }
+    {
+        match schedule {
+            Schedule::Turns => self.run_turns(),
+            Schedule::Seed(seed) => self.run_seed(seed),
+        }
+    }
+}
+
+/// The number that a word of the generator names.
+fn first_tried(words: &mut SplitMix64) -> u8
+    ensures number { result ≡ tries (Seed words.old) }
+    ensures words { words.new ≡ (mix_u64 words.old).1 }
+    ensures within { result < 58 }
+{
+    (words.next_word() % SLOTS as u64) as u8
+}
