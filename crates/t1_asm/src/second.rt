@@ -10,7 +10,7 @@ use crate::layout::pad;
 use std::alloc::{AllocError, Global};
 use std::collections::BTreeMap;
 use std::marker::Model;
-use t1_elf::{Chunk, Listed};
+use t1_elf::{Bytes, Chunk, Listed};
 use t1_form::directive::Width;
 use t1_lex::{Token, line_run};
 use t1_stmt::fault::{Fault, Halt};
@@ -83,7 +83,7 @@ impl Output {
         if bytes.len() > 0 {
             done.push(Chunk {
                 addr,
-                bytes: Listed::from_vec(bytes),
+                bytes: Bytes::from_vec(bytes),
                 zeros: 0,
             })?;
         }

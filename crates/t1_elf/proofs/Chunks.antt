@@ -4,7 +4,6 @@ use Rattle.std.proofs.lemmas.List.Elements.{All-cons, All-nil}
 use Rattle.std.proofs.Math.ListN.{drop_of_length-le}
 use Rattle.std.proofs.Math.Seq.{drop-cons}
 use Rattle.t1_elf.specs.declared.object.Chunk.{Chunk}
-use Rattle.t1_elf.specs.Images.{zeros_of, with_bytes_at, laid}
 use Rattle.t1_elf.specs.Saved.{program_header_of, program_headers_from, contents_of, HasSize, IsSavable}
 
 -- the chunk at a number, and those behind it
@@ -60,19 +59,6 @@ pub put_all_headers : (file : List ℕ) (offset : ℕ) (chunks : List Chunk) (i 
 unfolding program_headers_from
 put_all_headers file offset chunks i past =
     ap (λ cs. file ++ program_headers_from offset cs) (drop_of_length-le chunks past) ∙ append-nil file
-
--- ---- what they make of memory
-
-pub lay_next : (memory memory' : List ℕ) (chunks : List Chunk) (i : ℕ) (chunk : Chunk) → i < length chunks → chunk ≡ get_or chunks i chunk
-    → memory' ≡ with_bytes_at memory chunk.addr (chunk.bytes ++ zeros_of chunk.zeros)
-    → laid memory' (drop (i + 1) chunks) ≡ laid memory (drop i chunks)
-unfolding laid
-lay_next memory memory' chunks i chunk less is laid_is =
-    ap (λ m. laid m (drop (i + 1) chunks)) laid_is ∙ ap (laid memory) (sym (chunk_next chunks i chunk less is))
-
-pub lay_all : (memory : List ℕ) (chunks : List Chunk) (i : ℕ) → length chunks ≤ i → laid memory (drop i chunks) ≡ memory
-unfolding laid
-lay_all memory chunks i past = ap (laid memory) (drop_of_length-le chunks past)
 
 -- ---- an object of one chunk
 

@@ -1,8 +1,10 @@
 -- Bytes that are laid over a memory.
-use Rattle.std.proofs.Common.{◌≡◌, ℕ, ◌+◌, ◌-◌, ◌≤◌, List, ◌++◌, length, take, drop, ap, sym, ◌∙◌, append_assoc, arith, length-append, length-drop}
-use Rattle.std.proofs.lemmas.List.{length-take-le, drop-drop}
-use Rattle.std.proofs.Math.Seq.{take-append_seam, drop-append-add}
-use Rattle.t1_elf.specs.Images.{with_bytes_at}
+use Rattle.std.proofs.Common.{◌≡◌, ℕ, suc, ◌+◌, ◌-◌, ◌<◌, ◌≤◌, List, [], ◌∷◌, ◌++◌, length, take, drop, get_or, refl, ap, sym, ◌∙◌, subst, arith, length-append, length-drop}
+use Rattle.std.specs.Prelude.{All}
+use Rattle.std.proofs.lemmas.List.{length-take-le, length-replicate, take_more, get_or-take, get_or-drop, get_or_append_left, get_or-append_right}
+use Rattle.t1_elf.specs.declared.object.Chunk.{Chunk}
+use Rattle.t1_elf.specs.Images.{zeros_of, with_bytes_at, laid}
+use Rattle.t1_elf.specs.Parsed.{IsBelow}
 
 pub length-with_bytes_at : (memory : List ℕ) (addr : ℕ) (bytes : List ℕ) → addr + length bytes ≤ length memory
     → length (with_bytes_at memory addr bytes) ≡ length memory
@@ -16,27 +18,57 @@ length-with_bytes_at memory addr bytes within =
     ∙ ap (λ n. length (take addr memory) + n) (length-append bytes (drop (addr + length bytes) memory)) in
     omega (arith, front, back, whole, within)
 
--- bytes, and more behind them
-pub laid_behind : (memory : List ℕ) (addr : ℕ) (first second : List ℕ) → addr + length first ≤ length memory
-    → with_bytes_at (with_bytes_at memory addr first) (addr + length first) second ≡ with_bytes_at memory addr (first ++ second)
+-- ---- one byte of them
+
+pub byte_before : (memory : List ℕ) (addr : ℕ) (bytes : List ℕ) (j : ℕ) → addr ≤ length memory → j < addr
+    → get_or (with_bytes_at memory addr bytes) j 0 ≡ get_or memory j 0
 unfolding with_bytes_at
-laid_behind memory addr first second within =
-    let front : List ℕ = take addr memory ++ first in
-    let rest : List ℕ = drop (addr + length first) memory in
-    let len : length front ≡ addr + length first = length-append (take addr memory) first
-    ∙ ap (λ n. n + length first) (length-take-le addr memory (omega (arith, within))) in
-    let cut : take addr memory ++ (first ++ rest) ≡ front ++ rest = sym (append_assoc (take addr memory) first rest) in
-    let head : take (addr + length first) (take addr memory ++ (first ++ rest)) ≡ front =
-    ap (take (addr + length first)) cut ∙ ap (λ n. take n (front ++ rest)) (sym len) ∙ take-append_seam front rest in
-    let sum : addr + length (first ++ second) ≡ addr + length first + length second =
-    ap (λ n. addr + n) (length-append first second) ∙ (omega arith) in
-    let tail : drop (addr + length first + length second) (take addr memory ++ (first ++ rest)) ≡ drop (addr + length (first ++ second)) memory =
-    ap (drop (addr + length first + length second)) cut
-    ∙ ap (λ n. drop (n + length second) (front ++ rest)) (sym len)
-    ∙ drop-append-add front rest (length second)
-    ∙ drop-drop (length second) (addr + length first) memory
-    ∙ ap (λ n. drop n memory) (sym sum) in
-    ap (λ f. f ++ (second ++ drop (addr + length first + length second) (take addr memory ++ (first ++ rest)))) head
-    ∙ ap (λ t. front ++ (second ++ t)) tail
-    ∙ append_assoc (take addr memory) first (second ++ drop (addr + length (first ++ second)) memory)
-    ∙ ap (λ t. take addr memory ++ t) (sym (append_assoc first second (drop (addr + length (first ++ second)) memory)))
+byte_before memory addr bytes j within less =
+    get_or_append_left (take addr memory) (bytes ++ drop (addr + length bytes) memory) 0 j (omega (arith, less, length-take-le addr memory within))
+    ∙ get_or-take addr memory j 0 less
+
+pub byte_inside : (memory : List ℕ) (addr : ℕ) (bytes : List ℕ) (j : ℕ) → addr ≤ length memory → addr ≤ j → j < addr + length bytes
+    → get_or (with_bytes_at memory addr bytes) j 0 ≡ get_or bytes (j - addr) 0
+unfolding with_bytes_at
+byte_inside memory addr bytes j within above below =
+    get_or-append_right (take addr memory) (bytes ++ drop (addr + length bytes) memory) addr j 0 (length-take-le addr memory within) above
+    ∙ get_or_append_left bytes (drop (addr + length bytes) memory) 0 (j - addr) (omega (arith, above, below))
+
+pub byte_behind : (memory : List ℕ) (addr : ℕ) (bytes : List ℕ) (j : ℕ) → addr ≤ length memory → addr + length bytes ≤ j
+    → get_or (with_bytes_at memory addr bytes) j 0 ≡ get_or memory j 0
+unfolding with_bytes_at
+byte_behind memory addr bytes j within above =
+    let place : addr + length bytes + (j - addr - length bytes) ≡ j = omega (arith, above) in
+    get_or-append_right (take addr memory) (bytes ++ drop (addr + length bytes) memory) addr j 0 (length-take-le addr memory within) (omega (arith, above))
+    ∙ get_or-append_right bytes (drop (addr + length bytes) memory) (length bytes) (j - addr) 0 refl (omega (arith, above))
+    ∙ get_or-drop (addr + length bytes) memory (j - addr - length bytes) 0
+    ∙ ap (λ n. get_or memory n 0) place
+
+-- ---- chunks
+
+pub length-laid : (memory : List ℕ) (chunks : List Chunk) → All (IsBelow (length memory)) chunks → length (laid memory chunks) ≡ length memory
+unfolding laid
+length-laid memory [] below = refl
+length-laid memory (chunk ∷ chunks) below =
+    let content : List ℕ = chunk.bytes ++ zeros_of chunk.zeros in
+    let first : chunk.addr + length chunk.bytes + chunk.zeros ≤ length memory = below 0 chunk (omega arith) in
+    let size : length content ≡ length chunk.bytes + chunk.zeros =
+    length-append chunk.bytes (zeros_of chunk.zeros) ∙ ap (λ n. length chunk.bytes + n) (length-replicate {A = ℕ} chunk.zeros 0) in
+    let len : length (with_bytes_at memory chunk.addr content) ≡ length memory =
+    length-with_bytes_at memory chunk.addr content (omega (arith, first, size)) in
+    let P : ℕ → Type 0 = λ n. All (IsBelow n) chunks in
+    let rest : All (IsBelow (length memory)) chunks = λ k d less. below (suc k) d (omega (arith, less)) in
+    length-laid (with_bytes_at memory chunk.addr content) chunks (subst P (sym len) rest) ∙ len
+
+laid_snoc : (memory : List ℕ) (chunks : List Chunk) (chunk : Chunk)
+    → laid memory (chunks ++ chunk ∷ []) ≡ with_bytes_at (laid memory chunks) chunk.addr (chunk.bytes ++ zeros_of chunk.zeros)
+unfolding laid
+laid_snoc memory [] chunk = refl
+laid_snoc memory (first ∷ chunks) chunk =
+    laid_snoc (with_bytes_at memory first.addr (first.bytes ++ zeros_of first.zeros)) chunks chunk
+
+-- the first chunks and the next one
+pub laid_more : (memory : List ℕ) (chunks : List Chunk) (i : ℕ) (chunk : Chunk) → i < length chunks → chunk ≡ get_or chunks i chunk
+    → laid memory (take (i + 1) chunks) ≡ with_bytes_at (laid memory (take i chunks)) chunk.addr (chunk.bytes ++ zeros_of chunk.zeros)
+laid_more memory chunks i chunk less is =
+    ap (laid memory) (take_more chunks i chunk less ∙ ap (λ c. take i chunks ++ c ∷ []) (sym is)) ∙ laid_snoc memory (take i chunks) chunk

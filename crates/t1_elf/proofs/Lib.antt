@@ -1,6 +1,9 @@
 pub mod Tables
 pub mod Failures
 pub mod Laying
+pub mod Cutting
+pub mod Covering
+pub mod Underneath
 pub mod Reading
 pub mod Chunks
 pub mod SavedHeaders

@@ -25,12 +25,6 @@ none_left file at number count past =
     let none : count - number ≡ 0 = omega (arith, past) in
     ap (headers_from file at) none
 
-pub at_first : (file : List ℕ) (table count : ℕ) → headers_from file (table + 0 * 56) (count - 0) ≡ headers_from file table count
-at_first file table count =
-    let at : table + 0 * 56 ≡ table = omega arith in
-    let n : count - 0 ≡ count = omega arith in
-    ap (λ k. headers_from file k (count - 0)) at ∙ ap (headers_from file table) n
-
 or_assoc : (a b c : Bool) → ((a || b) || c) ≡ (a || (b || c))
 or_assoc true b c = refl
 or_assoc false b c = refl

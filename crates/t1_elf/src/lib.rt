@@ -2,7 +2,8 @@
 //!
 //! An [`Object`] is what a file holds of a program: where it starts, and its chunks of bytes and
 //! zeros. An [`Image`] is what memory holds before a run. [`parse`] reads the object of an ELF-64
-//! file (big-endian, SPARC V9), [`lay`] makes the image of an object, and [`save`] the file:
+//! file (big-endian, SPARC V9), whose chunks refer to the file, [`lay`] makes the image of an
+//! object, and [`save`] the file:
 //!
 //! ```text
 //! let object = parse(alloc, file, 65_536)?;
@@ -10,10 +11,12 @@
 //! ```
 //!
 //! `specs/Tests.antt` is the table of the tests of a file in their order, `specs/Parsed.antt` the
-//! object of a file that passes them, `specs/Images.antt` the image of an object, and
-//! `specs/Saved.antt` the file.
+//! object of a file that passes them, `specs/Images.antt` the image of an object,
+//! `specs/Gaps.antt` how it is made, each byte once, and `specs/Saved.antt` the file.
 #![tactic(auto)]
 
+pub mod bytes;
+mod coverage;
 pub mod error;
 pub mod header;
 pub mod laws;
@@ -26,6 +29,7 @@ mod table;
 mod tests;
 mod writer;
 
+pub use bytes::Bytes;
 pub use error::ElfError;
 pub use layout::lay;
 pub use listed::Listed;

@@ -1,5 +1,6 @@
 //! Objects, and the images that they make.
 
+use crate::bytes::Bytes;
 use crate::listed::Listed;
 use std::alloc::{AllocError, Global};
 
@@ -7,7 +8,7 @@ use std::alloc::{AllocError, Global};
 #[derive(Drop)]
 pub struct Chunk {
     pub addr: u64,
-    pub bytes: Listed<u8>,
+    pub bytes: Bytes,
     pub zeros: u64,
 }
 

@@ -1,12 +1,13 @@
 //! From the bytes of a file to an object.
 ghost use Rattle.std.specs.Prelude.{◌≡◌, ◌≢◌, ◌≤◌, length, false, Some, None, Ok, Err, IfOk, IfErr, IfSome};
-ghost use Rattle.t1_elf.specs.Parsed.{parsed, KeepsTo};
+ghost use Rattle.t1_elf.specs.Parsed.{parsed, object_of, KeepsTo};
 ghost use Rattle.t1_elf.specs.Tests.{is_too_short, is_not_elf, has_wrong_class, has_wrong_order, has_wrong_machine, has_wrong_type, has_bad_table, has_entry_outside, has_entry_misaligned, first_failure, header_tests_of, program_tests_of, tests_of, HasTable, CanBeRead};
 
 use crate::error::ElfError;
 use crate::object::Object;
 use crate::table::{look_through, read_chunks};
 use std::alloc::{AllocError, Global};
+use std::rc::Rc;
 use t1_num::get_be;
 
 #[tactic(auto, unfolding(crate::specs::Tests::is_too_short))]
@@ -142,28 +143,37 @@ fn failure(file: &[u8], limit: u64) -> Option<ElfError>
     }
 }
 
+/// The object of a file that can be read, whose chunks refer to the file.
+fn read_object(alloc: Global, file: Vec<u8>) -> Result<Object, AllocError>
+    requires { CanBeRead file.items }
+    ensures { IfOk result (λ object. object ≡ object_of file.items) }
+{
+    let entry = get_be(file.as_slice(), 24, 8);
+    let file = Rc::new(alloc, file)?;
+    let chunks = read_chunks(alloc, &file)?;
+    Ok(Object { entry, chunks })
+}
+
 /// The object of an ELF-64 file, whose chunks end at the limit or below it.
 ///
 /// Segments give the chunks in the order of the table. Sections, flags, other kinds of program
-/// headers and all other fields are not looked at.
+/// headers and all other fields are not looked at. The chunks refer to the file: no byte of it is
+/// copied, however many segments have it.
 ///
 /// # Errors
 ///
 /// The first test of `specs/Tests.antt` that the file fails, and [`ElfError::OutOfMemory`].
 #[tactic(auto, unfolding(crate::specs::Parsed::parsed))]
-pub fn parse(alloc: Global, file: &[u8], limit: u64) -> Result<Object, ElfError>
-    ensures object { IfOk result (λ object. parsed file.now limit ≡ Ok object) }
+pub fn parse(alloc: Global, file: Vec<u8>, limit: u64) -> Result<Object, ElfError>
+    ensures object { IfOk result (λ object. parsed file.items limit ≡ Ok object) }
     ensures keeps { IfOk result (KeepsTo limit) }
-    ensures error { IfErr result (λ error. error ≢ ElfError.OutOfMemory → parsed file.now limit ≡ Err error) }
+    ensures error { IfErr result (λ error. error ≢ ElfError.OutOfMemory → parsed file.items limit ≡ Err error) }
 {
-    if let Some(error) = failure(file, limit) {
+    if let Some(error) = failure(file.as_slice(), limit) {
         return Err(error);
     }
-    match read_chunks(alloc, file) {
-        Ok(chunks) => Ok(Object {
-            entry: get_be(file, 24, 8),
-            chunks,
-        }),
+    match read_object(alloc, file) {
+        Ok(object) => Ok(object),
         Err(AllocError) => Err(ElfError::OutOfMemory),
     }
 }

@@ -4,10 +4,12 @@ ghost use Rattle.t1_elf.specs.Fields.{header_at, headers_of};
 ghost use Rattle.t1_elf.specs.Parsed.{chunk_of, chunks_of};
 ghost use Rattle.t1_elf.specs.Tests.{is_dynamic, is_segment, is_outside, has_dynamic, has_no_segment, has_segment_outside, HasTable, HasBytes};
 
+use crate::bytes::Bytes;
 use crate::header::ProgramHeader;
 use crate::listed::Listed;
 use crate::object::Chunk;
 use std::alloc::{AllocError, Global};
+use std::rc::Rc;
 use t1_num::get_be;
 
 /// The bytes of a program header.
@@ -103,54 +105,48 @@ pub(crate) fn look_through(file: &[u8], limit: u64) -> Findings
     found
 }
 
-/// The chunk of a segment, whose bytes are copied from the file.
-fn read_chunk(alloc: Global, file: &[u8], header: ProgramHeader) -> Result<Chunk, AllocError>
-    requires bytes { header.offset + header.file_size ≤ length file.now }
+/// The chunk of a segment, whose bytes are those of the file.
+fn read_chunk(file: &Rc<Vec<u8>>, header: ProgramHeader) -> Result<Chunk, AllocError>
+    requires bytes { header.offset + header.file_size ≤ length file.now.value.items }
     requires size { header.file_size ≤ header.memory_size }
-    ensures { IfOk result (λ chunk. chunk ≡ chunk_of file.now header) }
+    ensures { IfOk result (λ chunk. chunk ≡ chunk_of file.now.value.items header) }
 {
-    let offset = header.offset as usize;
-    let bytes = file
-        .split_at(offset)
-        .1
-        .split_at(header.file_size as usize)
-        .0;
     Ok(Chunk {
         addr: header.address,
-        bytes: Listed::from_vec(Vec::from_slice(alloc, bytes)?),
+        bytes: Bytes::of_file(file, header.offset as usize, header.file_size as usize)?,
         zeros: header.memory_size - header.file_size,
     })
 }
 
 /// Appends the chunk of a header, where it is of a segment.
 fn add_chunk(
-    alloc: Global,
-    file: &[u8],
+    file: &Rc<Vec<u8>>,
     header: ProgramHeader,
     chunks: &mut Listed<Chunk>,
 ) -> Result<(), AllocError>
-    requires { HasBytes (length file.now) header }
-    ensures { OnOk result (chunks.new ≡ chunks.old ++ map (chunk_of file.now) (filter is_segment (header ∷ []))) }
+    requires { HasBytes (length file.now.value.items) header }
+    ensures { OnOk result (chunks.new ≡ chunks.old ++ map (chunk_of file.now.value.items) (filter is_segment (header ∷ []))) }
 {
     if header.is_segment() {
-        chunks.push(read_chunk(alloc, file, header)?)?;
+        chunks.push(read_chunk(file, header)?)?;
     }
     Ok(())
 }
 
 /// The chunks of the segments, in the order of the table.
-pub(crate) fn read_chunks(alloc: Global, file: &[u8]) -> Result<Listed<Chunk>, AllocError>
-    requires long { 64 ≤ length file.now }
-    requires table { HasTable file.now }
-    requires inside { All (HasBytes (length file.now)) (headers_of file.now) }
-    ensures { IfOk result (λ chunks. chunks ≡ chunks_of file.now) }
+pub(crate) fn read_chunks(alloc: Global, file: &Rc<Vec<u8>>) -> Result<Listed<Chunk>, AllocError>
+    requires long { 64 ≤ length file.now.value.items }
+    requires table { HasTable file.now.value.items }
+    requires inside { All (HasBytes (length file.now.value.items)) (headers_of file.now.value.items) }
+    ensures { IfOk result (λ chunks. chunks ≡ chunks_of file.now.value.items) }
 {
-    let table = get_be(file, 32, 8) as usize;
-    let count = get_be(file, 56, 2) as usize;
+    let bytes = file.as_ref().as_slice();
+    let table = get_be(bytes, 32, 8) as usize;
+    let count = get_be(bytes, 56, 2) as usize;
     let mut chunks = Listed::new(alloc);
     for number in 0..count {
-        let header = read_header(file, table + number * HEADER);
-        add_chunk(alloc, file, header, &mut chunks)?;
+        let header = read_header(bytes, table + number * HEADER);
+        add_chunk(file, header, &mut chunks)?;
     }
     Ok(chunks)
 }

@@ -1,7 +1,7 @@
 ghost use Rattle.std.specs.Prelude.{IfOk};
 ghost use Rattle.t1_elf.specs.Saved.{IsSavable};
 
-use crate::{Chunk, ElfError, Listed, Object, laws, lay, parse, save};
+use crate::{Bytes, Chunk, ElfError, Listed, Object, laws, lay, parse, save};
 use std::alloc::Global;
 use std::test::Fail;
 
@@ -23,6 +23,19 @@ const FILE: [u8; 124] = [
 
 /// A number of 64 bits that is as great as can be.
 const MOST: [u8; 8] = [0xff; 8];
+
+/// A segment of zeros alone at the file's end, and one byte behind it: offset, addresses, bytes in
+/// the file.
+const NO_BYTES_AT: [[u8; 32]; 2] = [
+    [
+        0, 0, 0, 0, 0, 0, 0, 124, 0, 0, 0, 0, 0, 0, 1, 0, 0, 0, 0, 0, 0, 0, 1, 0, 0, 0, 0, 0, 0, 0,
+        0, 0,
+    ],
+    [
+        0, 0, 0, 0, 0, 0, 0, 125, 0, 0, 0, 0, 0, 0, 1, 0, 0, 0, 0, 0, 0, 0, 1, 0, 0, 0, 0, 0, 0, 0,
+        0, 0,
+    ],
+];
 
 /// The file with these bytes at a place.
 fn changed(alloc: Global, at: u8, bytes: &[u8]) -> Result<Vec<u8>, Fail> {
@@ -66,17 +79,24 @@ fn passes<'a>(name: &'a str, at: u8, bytes: &'a [u8]) -> Case<'a> {
 fn the_first_test_that_a_file_fails(rt: HostRuntime) -> Result<(), Fail> {
     for case in [
         passes("as it is", 0, &[0x7f]),
-        fails("magic", 3, &[0x47], ElfError::NotElf),
+        fails("magic", 0, &[0x7e], ElfError::NotElf),
+        fails("end of the magic", 3, &[0x47], ElfError::NotElf),
         fails("class and order", 4, &[1, 1], ElfError::WrongClass),
+        fails("class above", 4, &[3], ElfError::WrongClass),
         fails("order", 5, &[1], ElfError::WrongOrder),
+        fails("order above", 5, &[3], ElfError::WrongOrder),
         fails(
             "type and machine",
             16,
             &[0, 3, 0, 44],
             ElfError::WrongMachine,
         ),
+        fails("machine below", 18, &[0, 42], ElfError::WrongMachine),
+        fails("machine of two bytes", 18, &[1, 43], ElfError::WrongMachine),
         fails("type", 16, &[0, 3], ElfError::WrongType),
+        fails("type below", 16, &[0, 1], ElfError::WrongType),
         fails("header size", 54, &[0, 57], ElfError::BadHeader),
+        fails("header size below", 54, &[0, 55], ElfError::BadHeader),
         fails("table past the end", 39, &[69], ElfError::BadHeader),
         fails("table at the end", 39, &[68], ElfError::NoSegment),
         fails("table end past 2^64", 32, &MOST, ElfError::BadHeader),
@@ -89,6 +109,7 @@ fn the_first_test_that_a_file_fails(rt: HostRuntime) -> Result<(), Fail> {
         fails("dynamic", 67, &[2], ElfError::Dynamic),
         fails("interpreter", 67, &[3], ElfError::Dynamic),
         fails("note", 67, &[4], ElfError::NoSegment),
+        fails("unused", 67, &[0], ElfError::NoSegment),
         fails(
             "no memory, odd fields",
             96,
@@ -103,6 +124,13 @@ fn the_first_test_that_a_file_fails(rt: HostRuntime) -> Result<(), Fail> {
         ),
         passes("fewer bytes than memory", 103, &[3]),
         fails("bytes past the end", 79, &[121], ElfError::SegmentOutside),
+        passes("no bytes, at the end", 72, &NO_BYTES_AT[0]),
+        fails(
+            "no bytes, past the end",
+            72,
+            &NO_BYTES_AT[1],
+            ElfError::SegmentOutside,
+        ),
         fails("bytes' end past 2^64", 72, &MOST, ElfError::SegmentOutside),
         passes("ends at the limit", 86, &[0xff, 0xfc]),
         fails(
@@ -125,7 +153,7 @@ fn the_first_test_that_a_file_fails(rt: HostRuntime) -> Result<(), Fail> {
         fails("entry misaligned", 31, &[2], ElfError::EntryMisaligned),
     ] {
         let file = changed(rt.alloc(), case.at, case.bytes)?;
-        let error = parse(rt.alloc(), file.as_slice(), 65536).err();
+        let error = parse(rt.alloc(), file, 65536).err();
         assert_eq!(rt; error, case.want, "{}", case.name);
     }
     for (len, want) in [
@@ -135,11 +163,12 @@ fn the_first_test_that_a_file_fails(rt: HostRuntime) -> Result<(), Fail> {
     ] {
         let mut file = changed(rt.alloc(), 0, &[])?;
         file.truncate(len);
-        let error = parse(rt.alloc(), file.as_slice(), 65536).err();
+        let error = parse(rt.alloc(), file, 65536).err();
         assert_eq!(rt; error, Some(want), "{len} bytes");
     }
     for (limit, want) in [(259, Some(ElfError::SegmentOutside)), (260, None)] {
-        let error = parse(rt.alloc(), &FILE, limit).err();
+        let file = changed(rt.alloc(), 0, &[])?;
+        let error = parse(rt.alloc(), file, limit).err();
         assert_eq!(rt; error, want, "limit {limit}");
     }
     Ok(())
@@ -151,7 +180,7 @@ fn halt(alloc: Global, zeros: u32) -> Result<Object, Fail>
 {
     let chunk = Chunk {
         addr: 0x100,
-        bytes: Listed::from_vec(Vec::from_slice(alloc, &[0xb5, 0x80, 0x20, 0])?),
+        bytes: Bytes::from_vec(Vec::from_slice(alloc, &[0xb5, 0x80, 0x20, 0])?),
         zeros: zeros as u64,
     };
     let object = Object::of_chunk(alloc, 0x100, chunk)?;
@@ -165,7 +194,7 @@ fn an_object_is_saved_and_read(rt: HostRuntime) -> Result<(), Fail> {
     assert_eq!(rt; file.as_slice(), FILE.as_slice());
 
     let file = save(rt.alloc(), &halt(rt.alloc(), 5)?)?;
-    let object = parse(rt.alloc(), file.as_slice(), 265)?;
+    let object = parse(rt.alloc(), file, 265)?;
     assert_eq!(rt; object.entry, 0x100);
     assert_eq!(rt; object.chunks.as_slice().len(), 1);
     for chunk in object.chunks.as_slice() {
@@ -175,22 +204,51 @@ fn an_object_is_saved_and_read(rt: HostRuntime) -> Result<(), Fail> {
     Ok(())
 }
 
-#[test]
-fn a_later_segment_lies_over_an_earlier_one(rt: HostRuntime) -> Result<(), Fail> {
-    let mut file = changed(rt.alloc(), 57, &[2])?;
+/// A file of these segments, and these bytes behind their headers.
+fn file_of(alloc: Global, segments: &[[u64; 6]], bytes: &[u8]) -> Result<Vec<u8>, Fail> {
+    let count = segments.len().min(0xffff) as u16;
+    let mut file = changed(alloc, 56, &count.to_be_bytes())?;
     file.truncate(64);
-    for [offset, addr, size, memory_size] in [[176, 2, 5, 5], [181, 3, 1, 3]] {
+    for fields in segments {
         file.extend_from_slice(&[0, 0, 0, 1, 0, 0, 0, 0])?;
-        for field in [offset, addr, 0, size, memory_size, 0u64] {
+        for field in fields {
             file.extend_from_slice(&field.to_be_bytes())?;
         }
     }
-    file.extend_from_slice(&[1, 2, 3, 4, 5, 9])?;
-    let object = parse(rt.alloc(), file.as_slice(), 1024)?;
+    file.extend_from_slice(bytes)?;
+    Ok(file)
+}
+
+#[test]
+fn a_later_segment_lies_over_an_earlier_one(rt: HostRuntime) -> Result<(), Fail> {
+    let segments = [[232, 2, 5, 5], [237, 3, 1, 3], [232, 1, 2, 2]].map(|[
+        offset,
+        addr,
+        size,
+        memory_size,
+    ]| [offset, addr, 0, size, memory_size, 0]);
+    let file = file_of(rt.alloc(), &segments, &[1, 2, 3, 4, 5, 9])?;
+    let object = parse(rt.alloc(), file, 1024)?;
     let image = lay(rt.alloc(), &object, 1024)?;
     assert_eq!(rt; image.entry, 0x100);
     let front = image.ram.as_slice().get(..8);
-    assert_eq!(rt; front, Some([0, 0, 1, 9, 0, 0, 5, 0].as_slice()));
+    assert_eq!(rt; front, Some([0, 1, 2, 9, 0, 0, 5, 0].as_slice()));
+    Ok(())
+}
+
+/// Laid one after another they would be a terabyte.
+#[test]
+fn as_many_segments_as_a_table_has_are_laid_in_time(rt: HostRuntime) -> Result<(), Fail> {
+    let bytes = 64 + 56 * 0xffff;
+    let segments = Vec::from_elem(rt.alloc(), [bytes, 0, 0, 4, 1 << 24, 0], 0xffff)?;
+    let file = file_of(rt.alloc(), segments.as_slice(), &[1, 2, 3, 4])?;
+    let object = parse(rt.alloc(), file, 1 << 24)?;
+    assert_eq!(rt; object.chunks.as_slice().len(), 0xffff);
+    let image = lay(rt.alloc(), &object, 1 << 24)?;
+    assert_eq!(rt;
+        image.ram.as_slice().get(..6),
+        Some([1, 2, 3, 4, 0, 0].as_slice())
+    );
     Ok(())
 }
 

@@ -9,7 +9,7 @@ use rand_core::SeedableRng;
 use rand_core::utils::NextWord;
 use rand_xoshiro::SplitMix64;
 use std::alloc::{AllocError, Global};
-use t1_elf::{Chunk, Listed, Object};
+use t1_elf::{Bytes, Chunk, Object};
 use t1_encode::encode;
 use t1_insn::{Insn, Src};
 use t1_num::put_be;
@@ -84,7 +84,7 @@ pub fn generate(alloc: Global, seed: u64, size: u32) -> Result<Object, AllocErro
 {
     let chunk = Chunk {
         addr: START,
-        bytes: Listed::from_vec(code(alloc, seed, size)?),
+        bytes: Bytes::from_vec(code(alloc, seed, size)?),
         zeros: 0,
     };
     Object::of_chunk(alloc, START, chunk)

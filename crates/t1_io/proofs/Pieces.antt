@@ -1,15 +1,15 @@
--- What came from a source after several reads.
-use Rattle.std.proofs.Common.{◌≡◌, ◌+◌, ◌≤◌, ◌∙◌, ap, ℕ, List, ◌++◌, length, take, length-append}
+-- What came from a source after several reads into one list.
+use Rattle.std.proofs.Common.{◌≡◌, ◌+◌, ◌∙◌, ap, sym, subst, ℕ, List, ◌++◌, take, drop}
 use Rattle.std.proofs.KnownBytes.{Consumes-trans}
-use Rattle.std.proofs.lemmas.List.{length-take-le}
+use Rattle.std.proofs.Math.Seq.{take-add}
 use Rattle.std.specs.Io.KnownBytes.{Consumes}
 use Rattle.std.specs.Prelude.{Option}
 
--- a read of n bytes after others
-pub Consumes-take : (old mid new : Option (List ℕ)) (bytes piece : List ℕ) (n : ℕ) → Consumes old mid bytes → Consumes mid new (take n piece) → n ≤ length piece
-    → (all : List ℕ) × Consumes old new all × (length all ≡ length bytes + n)
-Consumes-take old mid new bytes piece n first second h = (
-  bytes ++ take n piece,
-  Consumes-trans old mid new bytes (take n piece) first second,
-  length-append bytes (take n piece) ∙ ap (λ k. length bytes + k) (length-take-le n piece h),
-)
+-- a read behind what came before
+pub Consumes-behind : (old mid new : Option (List ℕ)) (all mid_all new_all : List ℕ) (at n : ℕ) → Consumes old mid (take at all)
+    → take at mid_all ≡ take at all → take at new_all ≡ take at mid_all → Consumes mid new (take n (drop at new_all))
+    → Consumes old new (take (at + n) new_all)
+Consumes-behind old mid new all mid_all new_all at n first same still second =
+    let P : List ℕ → Type 0 = λ bytes. Consumes old new bytes in
+    subst P (ap (λ front. front ++ take n (drop at new_all)) (sym (still ∙ same)) ∙ sym (take-add at n new_all))
+    (Consumes-trans old mid new (take at all) (take n (drop at new_all)) first second)

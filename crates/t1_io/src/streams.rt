@@ -15,7 +15,7 @@ use std::io::{Read, Write};
 use std::marker::Model;
 
 /// The most bytes of one read.
-const BLOCK: usize = 4096;
+const BLOCK: usize = 65_536;
 
 /// A reader of std, with a count of its faults: each `Err` is one.
 #[derive(Drop)]

@@ -1,17 +1,17 @@
 //! A whole input, and a whole piece of output.
-ghost use Rattle.std.specs.Prelude.{◌≡◌, ◌≢◌, ◌+◌, ◌≤◌, ◌++◌, length, vec_len, IfSome, IfOk, OnOk, OnErr};
+ghost use Rattle.std.specs.Prelude.{◌≡◌, ◌≢◌, ◌<◌, ◌≤◌, length, take, vec_len, IfSome, IfOk, OnOk, OnErr};
 ghost use Rattle.std.specs.Io.KnownBytes.{Consumes, IsAtEnd};
 ghost use Rattle.t1_io.specs.Causes.{HasCause, Rose};
 ghost use Rattle.t1_io.specs.Held.{Grew, GrewPart};
-ghost use Rattle.t1_io.specs.Whole.{GaveAtMost, GaveMore};
+ghost use Rattle.t1_io.specs.Whole.{GaveAtMost, GaveMore, ReadsAt};
 
 use crate::faults::{Failed, OutOfMemory};
 use crate::sinks::Sink;
 use crate::sources::Source;
 use std::alloc::Global;
 
-/// The most bytes that [`read_all`] asks for in one read.
-const PIECE: usize = 4096;
+/// The most bytes by which [`read_all`] makes room for a read.
+const BLOCK: usize = 65_536;
 
 /// Why an input was not read whole.
 #[derive(Clone, Copy, Debug, PartialEq, Eq)]
@@ -26,7 +26,8 @@ pub enum ReadError {
 
 /// All bytes of a source, to its end.
 ///
-/// It reads in pieces, and at no time holds more than twice `most` bytes and a piece.
+/// A read puts its bytes straight into the list, which grows by blocks, and at no time holds more
+/// than `most` bytes and one. Its room doubles where it is used up.
 ///
 /// # Errors
 ///
@@ -53,36 +54,52 @@ pub fn read_all<S: Source>(alloc: Global, source: &mut S, most: usize) -> Result
         GaveAtMost (S.left source.old) (S.left source.new) most }
 {
     let mut all = Vec::new(alloc);
-    let mut piece = [0; PIECE];
+    let mut came = 0;
     loop {
-        let Ok(count) = source.read(&mut piece) else {
+        let Ok(()) = make_room(&mut all, came, most) else {
+            return Err(ReadError::OutOfMemory);
+        };
+        let Ok(count) = read_at(source, &mut all, came) else {
             return Err(ReadError::Failed);
         };
         if count == 0 {
+            all.truncate(came);
             return Ok(all);
         }
-        if count > most - all.len() {
+        came += count;
+        if came > most {
             return Err(ReadError::TooLong);
-        }
-        if append(&mut all, piece.split_at(count).0, most).is_err() {
-            return Err(ReadError::OutOfMemory);
         }
     }
 }
 
-/// Appends a part to a list of at most `most` bytes. The room doubles where it is used up, and
-/// stays within `most`.
-fn append(all: &mut Vec<u8>, part: &[u8], most: usize) -> Result<(), OutOfMemory>
-    requires { vec_len all.old + length part.now ≤ most }
-    ensures ok { OnOk result (all.new.items ≡ all.old.items ++ part.now) }
-    ensures err { OnErr result (all.new.items ≡ all.old.items) }
+/// Reads into a list from a place on.
+fn read_at<S: Source>(source: &mut S, all: &mut Vec<u8>, at: usize) -> Result<usize, Failed>
+    requires { at < vec_len all.old }
+    ensures bytes { ReadsAt (S.left source.old) (S.left source.new) result at all.old.items all.new.items }
+    ensures cause { HasCause (S.faults source.old) (S.faults source.new) result }
 {
-    let length = all.len() + part.len();
-    if all.capacity() < length {
-        let room = all.capacity().saturating_mul(2).min(most).max(length);
-        all.reserve_exact(room - all.len())?;
+    source.read(&mut all[at..])
+}
+
+/// Makes room in a list of which bytes came up to a place. Where it is used up, a block of zeros is
+/// appended, or what is left of `most` bytes and one.
+fn make_room(all: &mut Vec<u8>, came: usize, most: usize) -> Result<(), OutOfMemory>
+    requires came { came ≤ vec_len all.old }
+    requires most { came ≤ most }
+    ensures room { OnOk result (came < vec_len all.new) }
+    ensures front { OnOk result (take came all.new.items ≡ take came all.old.items) }
+{
+    let length = all.len();
+    if came < length {
+        return Ok(());
     }
-    all.extend_from_slice(part)
+    let more = BLOCK.min((most - length).saturating_add(1));
+    if all.capacity() - length < more {
+        let room = all.capacity().min(most - length).max(more);
+        all.reserve_exact(room)?;
+    }
+    all.resize(length + more, 0)
 }
 
 /// Writes a whole piece.

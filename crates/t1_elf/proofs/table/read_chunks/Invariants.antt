@@ -7,5 +7,5 @@ use Rattle.t1_elf.proofs.table.read_chunks.Given as goal
 
 abbrev pub invariant-loop-number : goal.invariant-loop-number
 invariant-loop-number l =
-    l.chunks ++ map (chunk_of l.file) (filter is_segment (headers_from l.file (l.table + l.number * 56) (l.count - l.number)))
-    ≡ chunks_of l.file
+    l.chunks ++ map (chunk_of l.file.value.items) (filter is_segment (headers_from l.file.value.items (l.table + l.number * 56) (l.count - l.number)))
+    ≡ chunks_of l.file.value.items
