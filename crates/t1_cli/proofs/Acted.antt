@@ -1,5 +1,5 @@
 -- The items so far, and the memory that they have acted on.
-use Rattle.std.proofs.Common.{◌≡◌, ℕ, suc, ◌+◌, ◌<◌, ◌≤◌, Bool, true, false, List, [], ◌∷◌, ◌++◌, length, map, get_or, refl, ap, sym, ◌∙◌, cond, subst, arith}
+use Rattle.std.proofs.Common.{◌≡◌, ℕ, Bool, true, false, List, [], ◌∷◌, ◌++◌, length, map, refl, ap, sym, ◌∙◌, cond, subst}
 use Rattle.t1_num.specs.Memory.{with_number_at}
 use Rattle.t1_num.specs.MemoryLaws.{AreBytes}
 use Rattle.t1_num.proofs.MemoryLaws.{bytes_stay, length-with_number_at}

@@ -1,12 +1,11 @@
 -- A flat run is the replay of what it read, and its items act on the memory one after another.
-use Rattle.std.proofs.Common.{◌≡◌, ℕ, zero, suc, ◌+◌, ◌*◌, ◌-◌, ◌%◌, ◌^◌, ◌<◌, ◌≤◌, ◌==◌, nat_lt, nat_le, Bool, true, false, List, [], ◌∷◌, ◌++◌, length, map, Option, Some, None, refl, ap, sym, ◌∙◌, subst, append-nil, arith}
-use Rattle.std.proofs.lemmas.Bool.{lt-ltb, ltb-true, leb-true}
+use Rattle.std.proofs.Common.{◌≡◌, ℕ, zero, suc, ◌+◌, ◌*◌, ◌%◌, ◌^◌, ◌<◌, ◌≤◌, ◌==◌, nat_lt, Bool, true, false, List, [], ◌∷◌, ◌++◌, length, Option, Some, None, refl, ap, sym, ◌∙◌, subst, append-nil, arith}
+use Rattle.std.proofs.lemmas.Bool.{lt-ltb, leb-true}
 use Rattle.std.proofs.lemmas.Bool.Decides.{nat_tests}
 use Rattle.t1_num.specs.Memory.{number_at}
 use Rattle.t1_num.specs.MemoryLaws.{AreBytes}
 use Rattle.t1_num.proofs.MemoryLaws.{number_at_fits}
 use Rattle.t1_decode.specs.Words.{insn_of}
-use Rattle.t1_insn.specs.declared.instruction.Insn.{Insn}
 use Rattle.t1_state.specs.declared.strand.Strand.{Strand}
 use Rattle.t1_state.specs.declared.strand.Entered.{Entered}
 use Rattle.t1_state.specs.declared.strand.Entered.TheVariants.{Taken}
@@ -20,12 +19,11 @@ use Rattle.t1_exec.specs.declared.need.AtomicOp.TheVariants.{Swap, Cas}
 use Rattle.t1_exec.specs.Needs.{need_of, IsRam}
 use Rattle.t1_exec.specs.Meanings.{after_of}
 use Rattle.t1_event.specs.declared.item.Item.{Item}
-use Rattle.t1_event.specs.declared.trace.Trace.{Trace}
 use Rattle.t1_event.specs.declared.trace.Ending.{Ending}
-use Rattle.t1_event.specs.declared.trace.Ending.TheVariants.{Halted, Spent}
+use Rattle.t1_event.specs.declared.trace.Ending.TheVariants.{Halted}
 use Rattle.t1_event.specs.Items.{fetch_item, load_item, store_item, membar_item, flush_item, reads_of, unplaced}
 use Rattle.t1_event.specs.FlatMemory.{memory_with, ActsAt}
-use Rattle.t1_joint.specs.Replay.{End, Running, Done, Replay, Bounds, atomic_item, fetch_trap, entry_end, trapped, acted, met, with_value, is_fetchable, units, started}
+use Rattle.t1_joint.specs.Replay.{Running, Done, Replay, Bounds, atomic_item, fetch_trap, entry_end, trapped, acted, met, with_value, is_fetchable}
 use Rattle.t1_joint.specs.Follows.{StandsAt, HasBegun, Follows, IsTraceOf}
 use Rattle.t1_joint.proofs.Units.{unit_goes, word_begins, interrupt_goes, fetch_trap_goes, spent_stands}
 use Rattle.t1_cli.specs.declared.flat.FlatEnd.{FlatEnd}

@@ -1,10 +1,9 @@
 -- What is known of the machine that the words ask for, and of words one after another.
-use Rattle.std.proofs.Common.{◌≡◌, ℕ, suc, ◌+◌, ◌*◌, ◌%◌, ◌<◌, ◌≤◌, ◌==◌, ◌&&◌, nat_le, Bool, true, List, [], ◌∷◌, length, drop, map, get_or, Option, Some, None, refl, ap, sym, ◌∙◌, arith}
+use Rattle.std.proofs.Common.{◌≡◌, ℕ, suc, ◌+◌, ◌*◌, ◌%◌, ◌<◌, ◌≤◌, ◌==◌, ◌&&◌, nat_le, Bool, true, List, ◌∷◌, length, drop, map, get_or, Option, Some, None, refl, ap, sym, ◌∙◌, arith}
 use Rattle.std.proofs.lemmas.Bool.{and_parts, leb-true, eqb-true}
 use Rattle.std.proofs.Math.ListN.{drop_of_length-le}
 use Rattle.std.proofs.Math.Seq.{drop-cons}
 use Rattle.t1_event.specs.declared.report.Config.{Config}
-use Rattle.t1_cli.specs.declared.command.Given.{Given}
 use Rattle.t1_cli.specs.declared.command.Reading.{Reading}
 use Rattle.t1_cli.specs.Words.{is_set_count, is_in_limits, read_next, ended, options_after, IsOneStrand}
 

@@ -1,5 +1,5 @@
 -- The report of a flat run that has ended.
-use Rattle.std.proofs.Common.{◌≡◌, ℕ, ◌+◌, ◌*◌, ◌%◌, ◌^◌, ◌<◌, ◌≤◌, List, [], ◌∷◌, length, Some, Result, Ok, refl, ap, sym, ◌∙◌, subst, arith}
+use Rattle.std.proofs.Common.{◌≡◌, ℕ, ◌+◌, ◌*◌, ◌%◌, ◌<◌, ◌≤◌, List, [], length, Some, Result, Ok, refl, ap, sym, ◌∙◌, subst, arith}
 use Rattle.std.specs.Prelude.{All}
 use Rattle.std.proofs.lemmas.Bool.{lt-ltb, le-ltb}
 use Rattle.std.proofs.lemmas.List.Elements.{All-cons}
@@ -18,7 +18,8 @@ use Rattle.t1_log.specs.Printable.{IsPrintable, IsPrintableItem, IsPrintableTrac
 use Rattle.t1_cli.specs.declared.flat.FlatEnd.{FlatEnd}
 use Rattle.t1_cli.specs.declared.flat.FlatEnd.TheVariants.{Over}
 use Rattle.t1_cli.specs.declared.outcome.Outcome.{Outcome}
-use Rattle.t1_cli.specs.declared.outcome.Outcome.TheVariants.{TooLong, Misformed, NotBuilt, Ran}
+use Rattle.t1_cli.specs.declared.outcome.Outcome.TheVariants.{Refused, Ran}
+use Rattle.t1_cli.specs.declared.refusal.Refusal.TheVariants.{TooLong}
 use Rattle.t1_cli.specs.Flat.{Flat, flat_run, bounds_of}
 use Rattle.t1_cli.specs.Outcome.{image_in, outcome_at, outcome_of, outcome_of_file, outcome_of_size, most_input, report_of, run_of, trace_of}
 use Rattle.t1_cli.specs.Printed.{IsReportOf, EndPrints, ImageHolds, OutcomeHolds}
@@ -91,12 +92,10 @@ is_printable config entry image f ending report one size low over items end repo
 -- what comes of the image of an object is what comes of its file
 pub input_holds : (config : Config) (input : List ℕ) (object : Object) (outcome : Outcome) → parsed input config.ram ≡ Ok object
     → ImageHolds config object.entry (image_in config object) outcome → OutcomeHolds config input outcome
-input_holds config input object TooLong file holds = tt
-input_holds config input object (Misformed error) file holds = tt
-input_holds config input object (NotBuilt pc) file holds = tt
+input_holds config input object (Refused why) file holds = tt
 input_holds config input object (Ran ending report) file holds = (record { object = object; file = file; is_report = holds.0 }, holds.1)
 
-pub too_long : (config : Config) (input : List ℕ) → most_input < length input → TooLong ≡ outcome_of config input
+pub too_long : (config : Config) (input : List ℕ) → most_input < length input → Refused TooLong ≡ outcome_of config input
 unfolding outcome_of
 too_long config input long = ap (outcome_of_size config input) (sym (lt-ltb most_input (length input) long))
 

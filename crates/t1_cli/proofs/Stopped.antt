@@ -1,7 +1,6 @@
 -- A flat run that has stopped stays as it is.
-use Rattle.std.proofs.Common.{◌≡◌, ◌≢◌, ℕ, zero, suc, ◌+◌, ◌-◌, ◌≤◌, List, length, refl, ap, sym, ◌∙◌, arith}
+use Rattle.std.proofs.Common.{◌≡◌, ℕ, zero, suc, ◌+◌, ◌-◌, ◌≤◌, List, length, refl, ap, sym, ◌∙◌, arith}
 use Rattle.t1_state.specs.declared.strand.Strand.{Strand}
-use Rattle.t1_event.specs.declared.item.Item.{Item}
 use Rattle.t1_joint.specs.Replay.{Bounds}
 use Rattle.t1_cli.specs.declared.flat.FlatEnd.{FlatEnd}
 use Rattle.t1_cli.specs.declared.flat.FlatEnd.TheVariants.{On, Unbuilt, Over}

@@ -1,10 +1,9 @@
 -- What a verdict says of the input is what its status promises.
-use Rattle.std.proofs.Common.{◌≡◌, ◌↔◌, ℕ, ◌+◌, ◌<◌, ◌≤◌, List, [], ◌∷◌, ◌++◌, length, Option, Some, None, Result, Ok, Err, refl, ap, sym, ◌∙◌, subst, append-nil, arith, length-append}
+use Rattle.std.proofs.Common.{◌≡◌, ◌↔◌, ℕ, List, [], Option, Some, None, Result, Ok, Err, refl, ap, sym, ◌∙◌, subst, append-nil}
 use Rattle.std.specs.Prelude.{OnOk, OnErr}
-use Rattle.std.specs.Io.KnownBytes.{Consumes, IsAtEnd}
+use Rattle.std.specs.Io.KnownBytes.{IsAtEnd}
 use Rattle.t1_io.specs.Causes.{HasCause}
 use Rattle.t1_io.specs.Held.{Grew, GrewPart}
-use Rattle.t1_io.specs.Whole.{GaveMore}
 use Rattle.t1_event.specs.declared.report.Config.{Config}
 use Rattle.t1_event.specs.declared.report.Report.{Report}
 use Rattle.t1_event.specs.declared.trace.Ending.{Ending}
@@ -12,17 +11,17 @@ use Rattle.t1_event.specs.declared.trace.Ending.TheVariants as ending
 use Rattle.t1_log.specs.FirstLog.{first_log_of}
 use Rattle.t1_cli.specs.declared.command.Task.{Task}
 use Rattle.t1_cli.specs.declared.command.Task.TheVariants as task
-use Rattle.t1_cli.specs.declared.outcome.Outcome.{Outcome}
-use Rattle.t1_cli.specs.declared.outcome.Outcome.TheVariants.{TooLong, Misformed, NotBuilt, Ran}
+use Rattle.t1_cli.specs.declared.outcome.Outcome.TheVariants.{Refused, Ran}
+use Rattle.t1_cli.specs.declared.refusal.Refusal.{Refusal}
 use Rattle.t1_cli.specs.declared.status.Status.{Status}
 use Rattle.t1_cli.specs.declared.status.Status.TheVariants as status
 use Rattle.t1_cli.specs.declared.verdict.Verdict.{Verdict}
 use Rattle.t1_cli.specs.declared.verdict.Verdict.TheVariants as verdict
-use Rattle.t1_cli.specs.Outcome.{outcome_of, status_of, status_of_ending, most_input}
+use Rattle.t1_cli.specs.Made.{asm_of, dis_of}
+use Rattle.t1_cli.specs.Outcome.{outcome_of, status_of, status_of_ending}
 use Rattle.t1_cli.specs.Printed.{IsReportOfInput}
-use Rattle.t1_cli.specs.Serial.{WasLeft, HasText, PrintsRun, PrintsFront, IsRefused, Refuses, Answers, AnswersInput, AnswersRun, AnswersGen, AnswersTask, ReadsNothing, TellsLine}
-use Rattle.t1_cli.specs.Verdict.{status_of_verdict, RanInPart, Judged, Serves, Guests, ServesTask}
-use Rattle.t1_cli.proofs.Reports.{too_long}
+use Rattle.t1_cli.specs.Serial.{WasLeft, HasText, Answers, AnswersInput, AnswersRun, AnswersText, AnswersGen, AnswersTask, ReadsNothing, TellsLine, status_of_run, status_of_made, status_of_text}
+use Rattle.t1_cli.specs.Verdict.{status_of_verdict, RanInPart, Judged, Made, Guests, ServesTask}
 
 -- ---- lines on err
 
@@ -31,48 +30,9 @@ pub told : {T E : Type 0} (f f' : ℕ) (old new : Option (List ℕ)) (line : Lis
 told f f' old new line (Ok v) cause ok err = record { whole = λ _. ok; front = (line, [], sym (append-nil line), ok) }
 told f f' old new line (Err e) cause ok err = record { whole = λ none. absurd (none cause.failed); front = err }
 
--- ---- inputs
-
--- an input that was left
-abbrev pub some_input : Option (List ℕ) → List ℕ
-some_input None = []
-some_input (Some left) = left
-
-pub was_left : (left : Option (List ℕ)) → WasLeft left (some_input left)
-was_left None = tt
-was_left (Some left) = refl
-
--- a verdict that says nothing of its input
-pub serves_any : (config : Config) (left old new : Option (List ℕ)) (v : Verdict) → ((input : List ℕ) → Judged config input old new v) → Serves config left old new v
-serves_any config left old new v judged = record { input = some_input left; read = was_left left; judged = judged (some_input left) }
-
-longer : (left rest bytes : List ℕ) (most : ℕ) → left ≡ bytes ++ rest → most < length bytes → most < length left
-longer left rest bytes most e h = omega (arith, ap length e, length-append bytes rest, h)
-
-pub serves_too_long : (config : Config) (left left' old new : Option (List ℕ)) → GaveMore left left' most_input → Serves config left old new verdict.TooLong
-serves_too_long config None left' old new gave = record { input = gave.0; read = tt; judged = sym (too_long config gave.0 gave.2) }
-serves_too_long config (Some left) None old new gave = absurd gave.1
-serves_too_long config (Some left) (Some rest) old new gave =
-    record { input = left; read = refl; judged = sym (too_long config left (longer left rest gave.0 most_input gave.1 gave.2)) }
-
 -- ---- from verdicts to statuses
 
--- the status that is expected is that of what came of the input
-expected : (config : Config) (left : Option (List ℕ)) (input : List ℕ) (outcome : Outcome) → WasLeft left input → outcome_of config input ≡ outcome
-    → (known : List ℕ) → left ≡ Some known → status_of (outcome_of config known) ≡ status_of outcome
-expected config None input outcome read is known some = cc
-expected config (Some left) input outcome read is known some =
-    ap (λ i. status_of (outcome_of config i)) (known_is left known some ∙ read) ∙ ap status_of is
-  where
-    known_is : (left known : List ℕ) → Some left ≡ Some known → known ≡ left
-    known_is left known some = cc
-
--- where the source tells nothing, nothing is said; else the status is the one expected
-answers : (config : Config) (left : Option (List ℕ)) (result : Status)
-    → ((known : List ℕ) → left ≡ Some known → Answers result (status_of (outcome_of config known))) → AnswersInput config left result
-answers config None result one = tt
-answers config (Some left) result one = one left refl
-
+-- the status that an input's own status is
 same_answers : (result expects : Status) → expects ≡ result → Answers result expects
 same_answers status.Good expects is = is
 same_answers status.Usage expects is = is
@@ -84,16 +44,22 @@ same_answers status.WriteFault expects is = tt
 same_answers status.OutOfMemory expects is = tt
 same_answers status.NotInOrder expects is = is
 
+-- the input was left: where the source tells its bytes they are this input's
+answers_input : (expects : List ℕ → Status) (left : Option (List ℕ)) (input : List ℕ) (result : Status) → WasLeft left input → expects input ≡ result
+    → AnswersInput expects left result
+answers_input expects None input result read is = tt
+answers_input expects (Some left) input result read is = same_answers result (expects left) (ap expects read ∙ is)
+
+-- a device that failed, or want of memory, whatever is expected
+answers_any : (expects : List ℕ → Status) (left : Option (List ℕ)) (result : Status) → ((expected : Status) → Answers result expected)
+    → AnswersInput expects left result
+answers_any expects None result any = tt
+answers_any expects (Some left) result any = any (expects left)
+
 abbrev IsOther : Status → Type 0
 IsOther status.Refused = ⊥
 IsOther status.WriteFault = ⊥
-IsOther status.Good = Unit {0}
-IsOther status.Usage = Unit {0}
-IsOther status.Fault = Unit {0}
-IsOther status.Spent = Unit {0}
-IsOther status.ReadFault = Unit {0}
-IsOther status.OutOfMemory = Unit {0}
-IsOther status.NotInOrder = Unit {0}
+IsOther _ = Unit {0}
 
 -- another status than that of a refusal and of a failed write
 no_refusal : (result : Status) → IsOther result → result ≡ status.Refused → ⊥
@@ -114,7 +80,7 @@ ended_answers : (config : Config) (left left' old new : Option (List ℕ)) (inpu
     → outcome_of config input ≡ Ran e report → IsReportOfInput config input e report → Grew old new (first_log_of report)
     → (HasText (status_of_ending e) → IsAtEnd left') → AnswersRun config left left' old new (status_of_ending e)
 ended_answers config left left' old new input e report read is is_report printed end = record {
-  exact = answers config left (status_of_ending e) (λ known some. same_answers (status_of_ending e) _ (expected config left input (Ran e report) read is known some));
+  exact = answers_input (status_of_run config) left input (status_of_ending e) read (ap status_of is);
   refused = λ bad. absurd (no_refusal (status_of_ending e) (ending_is_other e) bad);
   ran = λ _. record { input = input; read = read; ending = e; report = report; outcome = is; is_report = is_report; status_is = refl; printed = printed };
   front = λ bad. absurd (no_write_fault (status_of_ending e) (ending_is_other e) bad);
@@ -128,22 +94,21 @@ write_fault_is : status.WriteFault ≡ status.Refused → ⊥
 write_fault_is bad = cc
 
 -- an input that was refused
-refused_answers : (config : Config) (left left' old new : Option (List ℕ)) (input : List ℕ) (outcome : Outcome) → WasLeft left input
-    → outcome_of config input ≡ outcome → IsRefused outcome → status_of outcome ≡ status.Refused
-    → AnswersRun config left left' old new status.Refused
-refused_answers config left left' old new input outcome read is refuses status_is = record {
-  exact = answers config left status.Refused (λ known some. expected config left input outcome read is known some ∙ status_is);
-  refused = λ _. record { input = input; read = read; refused = let P : Outcome → Type 0 = λ o. IsRefused o in subst P (sym is) refuses };
+refused_answers : (config : Config) (left left' old new : Option (List ℕ)) (input : List ℕ) (why : Refusal) → WasLeft left input
+    → outcome_of config input ≡ Refused why → AnswersRun config left left' old new status.Refused
+refused_answers config left left' old new input why read is = record {
+  exact = answers_input (status_of_run config) left input status.Refused read (ap status_of is);
+  refused = λ _. record { input = input; read = read; why = why; refused = is };
   ran = λ text. absurd text;
   front = λ bad. absurd (refused_is bad);
   end = λ text. absurd text;
 }
 
 -- a device that failed, or want of memory
-failed_answers : (config : Config) (left left' old new : Option (List ℕ)) (result : Status) → ((expects : Status) → Answers result expects)
+failed_answers : (config : Config) (left left' old new : Option (List ℕ)) (result : Status) → ((expected : Status) → Answers result expected)
     → IsOther result → (HasText result → ⊥) → AnswersRun config left left' old new result
 failed_answers config left left' old new result any other no_text = record {
-  exact = answers config left result (λ known some. any (status_of (outcome_of config known)));
+  exact = answers_any (status_of_run config) left result any;
   refused = λ bad. absurd (no_refusal result other bad);
   ran = λ text. absurd (no_text text);
   front = λ bad. absurd (no_write_fault result other bad);
@@ -154,7 +119,7 @@ failed_answers config left left' old new result any other no_text = record {
 written_answers : (config : Config) (left left' old new : Option (List ℕ)) (input : List ℕ) → WasLeft left input → RanInPart config input old new
     → AnswersRun config left left' old new status.WriteFault
 written_answers config left left' old new input read part = record {
-  exact = answers config left status.WriteFault (λ known some. tt);
+  exact = answers_any (status_of_run config) left status.WriteFault (λ expected. tt);
   refused = λ bad. absurd (write_fault_is bad);
   ran = λ text. absurd text;
   front = λ _. record { input = input; read = read; ending = part.ending; report = part.report; outcome = part.outcome; is_report = part.is_report; printed = part.printed };
@@ -170,17 +135,36 @@ run_answers config left left' old new verdict.Spent input read j end =
 run_answers config left left' old new (verdict.Fault number pc) input read j end =
     ended_answers config left left' old new input (ending.Fault number) j.report read j.outcome j.is_report j.printed end
 run_answers config left left' old new verdict.Usage input read j end = absurd j
-run_answers config left left' old new verdict.TooLong input read j end =
-    refused_answers config left left' old new input TooLong read j tt refl
-run_answers config left left' old new (verdict.Misformed error) input read j end =
-    refused_answers config left left' old new input (Misformed error) read j tt refl
-run_answers config left left' old new (verdict.NotBuilt pc) input read j end =
-    refused_answers config left left' old new input (NotBuilt pc) read j tt refl
+run_answers config left left' old new (verdict.Refused why) input read j end = refused_answers config left left' old new input why read j
 run_answers config left left' old new verdict.ReadFault input read j end =
-    failed_answers config left left' old new status.ReadFault (λ expects. tt) tt (λ text. text)
+    failed_answers config left left' old new status.ReadFault (λ expected. tt) tt (λ text. text)
 run_answers config left left' old new verdict.OutOfMemory input read j end =
-    failed_answers config left left' old new status.OutOfMemory (λ expects. tt) tt (λ text. text)
+    failed_answers config left left' old new status.OutOfMemory (λ expected. tt) tt (λ text. text)
 run_answers config left left' old new verdict.WriteFault input read j end = written_answers config left left' old new input read j
+
+-- ---- the commands asm and dis
+
+text_answers : (makes : List ℕ → Result (List ℕ) Refusal) (left left' old new : Option (List ℕ)) (v : Verdict) (input : List ℕ) → WasLeft left input
+    → Made (makes input) old new v → (HasText (status_of_verdict v) → IsAtEnd left') → AnswersText makes left left' old new (status_of_verdict v)
+text_answers makes left left' old new verdict.Good input read j end = record {
+  exact = answers_input (status_of_text makes) left input status.Good read (ap status_of_made j.is);
+  came = (record { input = input; read = read; text = j.text; made = j.is; printed = j.printed }, end tt);
+}
+text_answers makes left left' old new verdict.WriteFault input read j end = record {
+  exact = answers_any (status_of_text makes) left status.WriteFault (λ expected. tt);
+  came = record { input = input; read = read; text = j.text; made = j.is; printed = j.printed };
+}
+text_answers makes left left' old new (verdict.Refused why) input read j end = record {
+  exact = answers_input (status_of_text makes) left input status.Refused read (ap status_of_made j);
+  came = record { input = input; read = read; why = why; refused = j };
+}
+text_answers makes left left' old new verdict.ReadFault input read j end =
+    record { exact = answers_any (status_of_text makes) left status.ReadFault (λ expected. tt); came = tt }
+text_answers makes left left' old new verdict.OutOfMemory input read j end =
+    record { exact = answers_any (status_of_text makes) left status.OutOfMemory (λ expected. tt); came = tt }
+text_answers makes left left' old new verdict.Usage input read j end = absurd j
+text_answers makes left left' old new (verdict.Fault number pc) input read j end = absurd j
+text_answers makes left left' old new verdict.Spent input read j end = absurd j
 
 -- ---- the command gen
 
@@ -189,9 +173,7 @@ gen_answers seed size old new verdict.Good came = came
 gen_answers seed size old new verdict.WriteFault came = came
 gen_answers seed size old new verdict.OutOfMemory came = came
 gen_answers seed size old new verdict.Usage came = absurd came
-gen_answers seed size old new verdict.TooLong came = absurd came
-gen_answers seed size old new (verdict.Misformed error) came = absurd came
-gen_answers seed size old new (verdict.NotBuilt pc) came = absurd came
+gen_answers seed size old new (verdict.Refused why) came = absurd came
 gen_answers seed size old new (verdict.Fault number pc) came = absurd came
 gen_answers seed size old new verdict.Spent came = absurd came
 gen_answers seed size old new verdict.ReadFault came = absurd came
@@ -203,7 +185,11 @@ verdict_answers : (asked : Option Task) (left left' old new : Option (List ℕ))
     → AnswersTask asked left left' old new (status_of_verdict v)
 verdict_answers None left left' old new v serves end = ap status_of_verdict serves
 verdict_answers (Some (task.Run config)) left left' old new v serves end =
-    run_answers config left left' old new v serves.input serves.read serves.judged (end (λ bad. bad))
+    run_answers config left left' old new v serves.input serves.read serves.holds (end (λ bad. bad))
+verdict_answers (Some task.Asm) left left' old new v serves end =
+    text_answers asm_of left left' old new v serves.input serves.read serves.holds (end (λ bad. bad))
+verdict_answers (Some task.Dis) left left' old new v serves end =
+    text_answers dis_of left left' old new v serves.input serves.read serves.holds (end (λ bad. bad))
 verdict_answers (Some (task.Gen seed size)) left left' old new v serves end = gen_answers seed size old new v serves
 
 pub task_answers : (asked asked' : Option Task) (left left' old new : Option (List ℕ)) (v : Verdict) (result : Status) → asked ≡ asked'
@@ -224,9 +210,7 @@ serves_asked asked asked' left old new v same serves =
 usage_back : (v : Verdict) → status_of_verdict v ≡ status.Usage → v ≡ verdict.Usage
 usage_back verdict.Usage h = refl
 usage_back verdict.Good h = cc
-usage_back verdict.TooLong h = cc
-usage_back (verdict.Misformed error) h = cc
-usage_back (verdict.NotBuilt pc) h = cc
+usage_back (verdict.Refused why) h = cc
 usage_back (verdict.Fault number pc) h = cc
 usage_back verdict.Spent h = cc
 usage_back verdict.ReadFault h = cc

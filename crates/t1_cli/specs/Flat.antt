@@ -1,5 +1,5 @@
 -- One strand on one flat memory, which answers each read and takes each write at once.
-use Rattle.std.specs.Prelude.{ℕ, zero, suc, ◌≡◌, ◌+◌, ◌==◌, Bool, true, false, nat_le, List, [], ◌∷◌, ◌++◌, length, Option, Some, None}
+use Rattle.std.specs.Prelude.{ℕ, zero, suc, ◌+◌, ◌==◌, Bool, true, false, nat_le, List, [], ◌∷◌, ◌++◌, length, Option, Some, None}
 use Rattle.t1_num.specs.Memory.{number_at}
 use Rattle.t1_decode.specs.Words.{insn_of}
 use Rattle.t1_insn.specs.declared.instruction.Insn.{Insn}

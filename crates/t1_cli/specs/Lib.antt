@@ -1,6 +1,8 @@
 pub mod Flat
 pub mod Words
 pub mod Outcome
+pub mod Lines
+pub mod Made
 pub mod Codes
 pub mod Printed
 pub mod Serial

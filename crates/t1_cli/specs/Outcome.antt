@@ -1,8 +1,7 @@
--- What comes of an input under a machine of one strand: its refusal, a point that is not built, or the report of its run.
-use Rattle.std.specs.Prelude.{ℕ, Bool, true, false, nat_lt, List, [], ◌∷◌, ◌++◌, length, codes, Some, Result, Ok, Err}
+-- What comes of an input under a machine of one strand: why it is refused, or the report of its run.
+use Rattle.std.specs.Prelude.{ℕ, Bool, true, false, nat_lt, List, [], ◌∷◌, length, Some, Result, Ok, Err}
 use Rattle.t1_state.specs.Registers.{start_of}
 use Rattle.t1_elf.specs.declared.error.ElfError.{ElfError}
-use Rattle.t1_elf.specs.declared.error.ElfError.TheVariants as elf
 use Rattle.t1_elf.specs.declared.object.Object.{Object}
 use Rattle.t1_elf.specs.Images.{image_of}
 use Rattle.t1_elf.specs.Parsed.{parsed}
@@ -12,13 +11,13 @@ use Rattle.t1_event.specs.declared.trace.Trace.{Trace}
 use Rattle.t1_event.specs.declared.trace.Ending.{Ending}
 use Rattle.t1_event.specs.declared.trace.Ending.TheVariants as ending
 use Rattle.t1_event.specs.ProgramOrder.{program_order}
-use Rattle.t1_log.specs.Hex.{hex_of}
 use Rattle.t1_cli.specs.declared.flat.FlatEnd.{FlatEnd}
 use Rattle.t1_cli.specs.declared.flat.FlatEnd.TheVariants.{On, Unbuilt, Over}
 use Rattle.t1_cli.specs.declared.status.Status.{Status}
 use Rattle.t1_cli.specs.declared.status.Status.TheVariants as status
 use Rattle.t1_cli.specs.declared.outcome.Outcome.{Outcome}
-use Rattle.t1_cli.specs.declared.outcome.Outcome.TheVariants.{TooLong, Misformed, NotBuilt, Ran}
+use Rattle.t1_cli.specs.declared.outcome.Outcome.TheVariants.{Refused, Ran}
+use Rattle.t1_cli.specs.declared.refusal.Refusal.TheVariants.{TooLong, Misformed, NotBuilt}
 use Rattle.t1_cli.specs.Flat.{Flat, flat_run}
 
 -- the trace of a strand that has ended
@@ -38,8 +37,8 @@ report_of config entry image f ending = record {
 
 abbrev pub outcome_at : Config → ℕ → List ℕ → Flat → FlatEnd → Outcome
 outcome_at config entry image f (Over ending) = Ran ending (report_of config entry image f ending)
-outcome_at config entry image f Unbuilt = NotBuilt f.strand.pc
-outcome_at config entry image f On = NotBuilt f.strand.pc
+outcome_at config entry image f Unbuilt = Refused (NotBuilt f.strand.pc)
+outcome_at config entry image f On = Refused (NotBuilt f.strand.pc)
 
 -- the run of strand 0 of 1 from an image
 unfoldable pub run_of : Config → ℕ → List ℕ → Outcome
@@ -51,11 +50,11 @@ abbrev pub image_in : Config → Object → List ℕ
 image_in config object = (image_of object config.ram).ram
 
 abbrev pub outcome_of_file : Config → Result Object ElfError → Outcome
-outcome_of_file config (Err error) = Misformed error
+outcome_of_file config (Err error) = Refused (Misformed error)
 outcome_of_file config (Ok object) = run_of config object.entry (image_in config object)
 
 abbrev pub outcome_of_size : Config → List ℕ → Bool → Outcome
-outcome_of_size config input true = TooLong
+outcome_of_size config input true = Refused TooLong
 outcome_of_size config input false = outcome_of_file config (parsed input config.ram)
 
 -- the most bytes of an input
@@ -73,37 +72,10 @@ status_of_ending (ending.Fault number) = status.Fault
 
 -- the status of an outcome
 abbrev pub status_of : Outcome → Status
-status_of TooLong = status.Refused
-status_of (Misformed error) = status.Refused
-status_of (NotBuilt pc) = status.Refused
+status_of (Refused why) = status.Refused
 status_of (Ran ending report) = status_of_ending ending
-
--- the name of a kind of fault of a file
-abbrev pub name_of : ElfError → List ℕ
-name_of elf.TooShort = codes "TooShort"
-name_of elf.NotElf = codes "NotElf"
-name_of elf.WrongClass = codes "WrongClass"
-name_of elf.WrongOrder = codes "WrongOrder"
-name_of elf.WrongMachine = codes "WrongMachine"
-name_of elf.WrongType = codes "WrongType"
-name_of elf.BadHeader = codes "BadHeader"
-name_of elf.Dynamic = codes "Dynamic"
-name_of elf.NoSegment = codes "NoSegment"
-name_of elf.SegmentOutside = codes "SegmentOutside"
-name_of elf.EntryOutside = codes "EntryOutside"
-name_of elf.EntryMisaligned = codes "EntryMisaligned"
-name_of elf.OutOfMemory = codes "OutOfMemory"
 
 -- the PC of the first strand
 abbrev pub pc_of : List Trace → ℕ
 pc_of [] = 0
 pc_of (trace ∷ traces) = trace.pc
-
-abbrev pub elf_line : ElfError → List ℕ
-elf_line error = codes "t1sim: elf " ++ (name_of error ++ codes "\n")
-
-abbrev pub not_built_line : ℕ → List ℕ
-not_built_line pc = codes "t1sim: not built at " ++ (hex_of 16 pc ++ codes "\n")
-
-abbrev pub fault_line : ℕ → ℕ → List ℕ
-fault_line number pc = codes "t1sim: strand 0 fault " ++ (hex_of 3 number ++ (codes " at " ++ (hex_of 16 pc ++ codes "\n")))

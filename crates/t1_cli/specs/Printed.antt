@@ -1,5 +1,5 @@
 -- What a finished run promises of its report.
-use Rattle.std.specs.Prelude.{ℕ, ◌≡◌, List, [], ◌∷◌, Option, Some, Ok}
+use Rattle.std.specs.Prelude.{ℕ, ◌≡◌, List, [], ◌∷◌, Some, Ok}
 use Rattle.t1_state.specs.Registers.{start_of}
 use Rattle.t1_elf.specs.declared.object.Object.{Object}
 use Rattle.t1_elf.specs.Parsed.{parsed}
@@ -15,7 +15,7 @@ use Rattle.t1_log.specs.Printable.{IsPrintable, IsPrintableEnding}
 use Rattle.t1_cli.specs.declared.flat.FlatEnd.{FlatEnd}
 use Rattle.t1_cli.specs.declared.flat.FlatEnd.TheVariants.{On, Unbuilt, Over}
 use Rattle.t1_cli.specs.declared.outcome.Outcome.{Outcome}
-use Rattle.t1_cli.specs.declared.outcome.Outcome.TheVariants.{TooLong, Misformed, NotBuilt, Ran}
+use Rattle.t1_cli.specs.declared.outcome.Outcome.TheVariants.{Refused, Ran}
 use Rattle.t1_cli.specs.Flat.{bounds_of}
 use Rattle.t1_cli.specs.Outcome.{image_in}
 
@@ -35,9 +35,7 @@ pub record IsReportOf (config : Config) (entry : ℕ) (image : List ℕ) (ending
 
 -- what an outcome of an image holds of its report: that it is one, and that it has a text
 abbrev pub ImageHolds : Config → ℕ → List ℕ → Outcome → Type 0
-ImageHolds config entry image TooLong = Unit {0}
-ImageHolds config entry image (Misformed error) = Unit {0}
-ImageHolds config entry image (NotBuilt pc) = Unit {0}
+ImageHolds config entry image (Refused why) = Unit {0}
 ImageHolds config entry image (Ran ending report) = IsReportOf config entry image ending report × IsPrintable report
 
 -- the input is the file of an object, whose run has such a report
@@ -47,9 +45,7 @@ pub record IsReportOfInput (config : Config) (input : List ℕ) (ending : Ending
   pub is_report : IsReportOf config object.entry (image_in config object) ending report
 
 abbrev pub OutcomeHolds : Config → List ℕ → Outcome → Type 0
-OutcomeHolds config input TooLong = Unit {0}
-OutcomeHolds config input (Misformed error) = Unit {0}
-OutcomeHolds config input (NotBuilt pc) = Unit {0}
+OutcomeHolds config input (Refused why) = Unit {0}
 OutcomeHolds config input (Ran ending report) = IsReportOfInput config input ending report × IsPrintable report
 
 -- an ending has a text

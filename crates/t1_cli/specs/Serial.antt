@@ -1,5 +1,5 @@
 -- What the serial command promises.
-use Rattle.std.specs.Prelude.{ℕ, ◌≡◌, ◌⊎◌, List, [], ◌∷◌, ◌++◌, Option, Some, None, ⊤, length}
+use Rattle.std.specs.Prelude.{ℕ, ◌≡◌, List, Option, Some, None, Result, Ok, Err, ⊤}
 use Rattle.std.specs.Io.KnownBytes.{IsAtEnd}
 use Rattle.t1_io.specs.Causes.{Rose}
 use Rattle.t1_io.specs.Held.{Grew, GrewPart}
@@ -11,10 +11,11 @@ use Rattle.t1_gen.specs.Guests.{generated}
 use Rattle.t1_log.specs.FirstLog.{first_log_of}
 use Rattle.t1_cli.specs.declared.command.Task.{Task}
 use Rattle.t1_cli.specs.declared.command.Task.TheVariants as task
-use Rattle.t1_cli.specs.declared.outcome.Outcome.{Outcome}
-use Rattle.t1_cli.specs.declared.outcome.Outcome.TheVariants.{TooLong, Misformed, NotBuilt, Ran}
+use Rattle.t1_cli.specs.declared.outcome.Outcome.TheVariants.{Refused, Ran}
+use Rattle.t1_cli.specs.declared.refusal.Refusal.{Refusal}
 use Rattle.t1_cli.specs.declared.status.Status.{Status}
 use Rattle.t1_cli.specs.declared.status.Status.TheVariants as status
+use Rattle.t1_cli.specs.Made.{asm_of, dis_of}
 use Rattle.t1_cli.specs.Outcome.{outcome_of, status_of, status_of_ending}
 use Rattle.t1_cli.specs.Printed.{IsReportOfInput}
 
@@ -47,6 +48,23 @@ HasNoText status.Spent = ⊥
 HasNoText status.WriteFault = ⊥
 HasNoText status.NotInOrder = ⊥
 
+-- a command answers the status that is expected, but where a device failed or memory was wanting
+abbrev pub Answers : Status → Status → Type 0
+Answers status.ReadFault expected = ⊤
+Answers status.WriteFault expected = ⊤
+Answers status.OutOfMemory expected = ⊤
+Answers status.Good expected = expected ≡ status.Good
+Answers status.Usage expected = expected ≡ status.Usage
+Answers status.Refused expected = expected ≡ status.Refused
+Answers status.Fault expected = expected ≡ status.Fault
+Answers status.Spent expected = expected ≡ status.Spent
+Answers status.NotInOrder expected = expected ≡ status.NotInOrder
+
+-- where the source tells its bytes, the status is the one that is expected of them
+abbrev pub AnswersInput : (List ℕ → Status) → Option (List ℕ) → Status → Type 0
+AnswersInput expected None result = ⊤
+AnswersInput expected (Some left) result = Answers result (expected left)
+
 -- ---- the command run
 
 -- the input ran to an ending of this status, and what was written grew by exactly its first log
@@ -71,41 +89,65 @@ pub record PrintsFront (config : Config) (left old new : Option (List ℕ)) : Ty
   pub printed : GrewPart old new (first_log_of report)
 
 -- the input is too long, or no program that can be loaded, or its run met a point that is not built
-abbrev pub IsRefused : Outcome → Type 0
-IsRefused TooLong = ⊤
-IsRefused (Misformed error) = ⊤
-IsRefused (NotBuilt pc) = ⊤
-IsRefused (Ran ending report) = ⊥
-
 pub record Refuses (config : Config) (left : Option (List ℕ)) : Type 0 where
   pub input : List ℕ
   pub read : WasLeft left input
-  pub refused : IsRefused (outcome_of config input)
+  pub why : Refusal
+  pub refused : outcome_of config input ≡ Refused why
 
--- a command answers the status that is expected, but where a device failed or memory was wanting
-abbrev pub Answers : Status → Status → Type 0
-Answers status.ReadFault expected = ⊤
-Answers status.WriteFault expected = ⊤
-Answers status.OutOfMemory expected = ⊤
-Answers status.Good expected = expected ≡ status.Good
-Answers status.Usage expected = expected ≡ status.Usage
-Answers status.Refused expected = expected ≡ status.Refused
-Answers status.Fault expected = expected ≡ status.Fault
-Answers status.Spent expected = expected ≡ status.Spent
-Answers status.NotInOrder expected = expected ≡ status.NotInOrder
-
--- where the source tells its bytes, the status is that of what comes of them
-abbrev pub AnswersInput : Config → Option (List ℕ) → Status → Type 0
-AnswersInput config None result = ⊤
-AnswersInput config (Some left) result = Answers result (status_of (outcome_of config left))
+-- the status that is expected of an input
+abbrev pub status_of_run : Config → List ℕ → Status
+status_of_run config input = status_of (outcome_of config input)
 
 -- what a status of the command run says of what was read and of what was written
 pub record AnswersRun (config : Config) (left left' old new : Option (List ℕ)) (result : Status) : Type 0 where
-  pub exact : AnswersInput config left result
+  pub exact : AnswersInput (status_of_run config) left result
   pub refused : result ≡ status.Refused → Refuses config left
   pub ran : HasText result → PrintsRun config left old new result
   pub front : result ≡ status.WriteFault → PrintsFront config left old new
   pub end : HasText result → IsAtEnd left'
+
+-- ---- the commands asm and dis, which make a text of each input or refuse it
+
+-- a text was made of the input, and what was written grew by it in this way
+pub record PrintsText (makes : List ℕ → Result (List ℕ) Refusal) (left : Option (List ℕ)) (grew : List ℕ → Type 0) : Type 0 where
+  pub input : List ℕ
+  pub read : WasLeft left input
+  pub text : List ℕ
+  pub made : makes input ≡ Ok text
+  pub printed : grew text
+
+-- the input is refused
+pub record RefusesText (makes : List ℕ → Result (List ℕ) Refusal) (left : Option (List ℕ)) : Type 0 where
+  pub input : List ℕ
+  pub read : WasLeft left input
+  pub why : Refusal
+  pub refused : makes input ≡ Err why
+
+-- the whole text was written, or a front of it; the input is refused; a read failed, or memory was wanting
+abbrev pub CameOfText : (List ℕ → Result (List ℕ) Refusal) → Option (List ℕ) → Option (List ℕ) → Option (List ℕ) → Option (List ℕ) → Status → Type 0
+CameOfText makes left left' old new status.Good = PrintsText makes left (Grew old new) × IsAtEnd left'
+CameOfText makes left left' old new status.WriteFault = PrintsText makes left (GrewPart old new)
+CameOfText makes left left' old new status.Refused = RefusesText makes left
+CameOfText makes left left' old new status.ReadFault = ⊤
+CameOfText makes left left' old new status.OutOfMemory = ⊤
+CameOfText makes left left' old new status.Usage = ⊥
+CameOfText makes left left' old new status.Fault = ⊥
+CameOfText makes left left' old new status.Spent = ⊥
+CameOfText makes left left' old new status.NotInOrder = ⊥
+
+-- the status that is expected of what is made of an input
+abbrev pub status_of_made : Result (List ℕ) Refusal → Status
+status_of_made (Ok text) = status.Good
+status_of_made (Err why) = status.Refused
+
+abbrev pub status_of_text : (List ℕ → Result (List ℕ) Refusal) → List ℕ → Status
+status_of_text makes input = status_of_made (makes input)
+
+-- what a status of such a command says of what was read and of what was written
+pub record AnswersText (makes : List ℕ → Result (List ℕ) Refusal) (left left' old new : Option (List ℕ)) (result : Status) : Type 0 where
+  pub exact : AnswersInput (status_of_text makes) left result
+  pub came : CameOfText makes left left' old new result
 
 -- ---- the command gen
 
@@ -127,12 +169,16 @@ AnswersGen seed size old new status.NotInOrder = ⊥
 abbrev pub AnswersTask : Option Task → Option (List ℕ) → Option (List ℕ) → Option (List ℕ) → Option (List ℕ) → Status → Type 0
 AnswersTask None left left' old new result = result ≡ status.Usage
 AnswersTask (Some (task.Run config)) left left' old new result = AnswersRun config left left' old new result
+AnswersTask (Some task.Asm) left left' old new result = AnswersText asm_of left left' old new result
+AnswersTask (Some task.Dis) left left' old new result = AnswersText dis_of left left' old new result
 AnswersTask (Some (task.Gen seed size)) left left' old new result = AnswersGen seed size old new result
 
--- the words ask for a guest, which reads no input
+-- the words ask for a guest, which reads no input, or for nothing
 abbrev pub ReadsNothing : Option Task → Type 0
 ReadsNothing None = ⊤
 ReadsNothing (Some (task.Run config)) = ⊥
+ReadsNothing (Some task.Asm) = ⊥
+ReadsNothing (Some task.Dis) = ⊥
 ReadsNothing (Some (task.Gen seed size)) = ⊤
 
 -- a front of a line was written, and the whole line where the count of faults did not rise

@@ -181,7 +181,7 @@ IsCommand command.Check = ⊤
 
 -- ---- what is served today
 
--- a run of one strand with its whole log, by turns, and a guest
+-- a run of one strand with its whole log, by turns; the assembler and the disassembler; a guest
 abbrev pub served : Option Command → Option Task
 served None = None
 served (Some (command.Run config None false)) = if (config.cores == 1) && (config.strands == 1) then Some (task.Run config) else None
@@ -189,8 +189,8 @@ served (Some (command.Run config None true)) = None
 served (Some (command.Run config (Some seed) brief)) = None
 served (Some (command.Gen seed size)) = Some (task.Gen seed size)
 served (Some (command.Live config)) = None
-served (Some command.Asm) = None
-served (Some command.Dis) = None
+served (Some command.Asm) = Some task.Asm
+served (Some command.Dis) = Some task.Dis
 served (Some command.Check) = None
 
 abbrev pub task_of : List (List ℕ) → Option Task
@@ -207,4 +207,6 @@ pub record IsOneStrand (config : Config) : Type 0 where
 
 abbrev pub IsTask : Task → Type 0
 IsTask (task.Run config) = IsOneStrand config
+IsTask task.Asm = ⊤
+IsTask task.Dis = ⊤
 IsTask (task.Gen seed size) = (1 ≤ size) × (size ≤ 4000)

@@ -26,10 +26,13 @@ pub enum Command {
     },
 }
 
-/// What the serial command does today: a run of one strand on one flat memory, or a guest.
+/// What the serial command does today: a run of one strand on one flat memory, the file of an
+/// assembly text, the words of a file, or a guest.
 #[derive(Clone, Copy, Debug, PartialEq, Eq)]
 pub(crate) enum Task {
     Run { config: Config },
+    Asm,
+    Dis,
     Gen { seed: u64, size: u32 },
 }
 

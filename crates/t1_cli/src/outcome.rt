@@ -1,17 +1,13 @@
-//! What comes of an input.
+//! What comes of a run of an input.
 
-use t1_elf::ElfError;
+use crate::refusal::Refusal;
 use t1_event::{Ending, Report};
 
-/// What comes of an input.
+/// What comes of a run of an input.
 #[derive(Drop)]
 pub enum Outcome {
-    /// It is longer than an input may be.
-    TooLong,
-    /// It is no program that can be loaded.
-    Misformed(ElfError),
-    /// The strand met a point that is not built, at this PC.
-    NotBuilt(u64),
+    /// It is too long or no program that can be loaded, or its run met a point that is not built.
+    Refused(Refusal),
     /// The strand ended.
     Ran(Ending, Report),
 }

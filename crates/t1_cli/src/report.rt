@@ -11,6 +11,7 @@ ghost use Rattle.t1_cli.specs.Words.{IsOneStrand};
 use crate::flat::FlatEnd;
 use crate::order::program_order_of;
 use crate::outcome::Outcome;
+use crate::refusal::Refusal;
 use crate::run::{Run, run_flat};
 use std::alloc::{AllocError, Global};
 use t1_elf::{ElfError, Image, Listed, Object, lay, parse};
@@ -73,17 +74,17 @@ fn run_image(alloc: Global, config: Config, image: Image) -> Result<Outcome, All
             ending,
             report(alloc, config, image, run, ending)?,
         )),
-        FlatEnd::On | FlatEnd::Unbuilt => Ok(Outcome::NotBuilt(run.strand.pc)),
+        FlatEnd::On | FlatEnd::Unbuilt => Ok(Outcome::Refused(Refusal::NotBuilt(run.strand.pc))),
     }
 }
 
 /// The object of a file, whose bytes are let go.
-fn read_object(alloc: Global, input: Vec<u8>, limit: u64) -> Result<Object, ElfError>
+pub(crate) fn read_object(alloc: Global, input: Vec<u8>, limit: u64) -> Result<Object, ElfError>
     ensures object { IfOk result (λ object. parsed input.items limit ≡ Ok object) }
     ensures keeps { IfOk result (KeepsTo limit) }
     ensures error { IfErr result (λ error. error ≢ ElfError.OutOfMemory → parsed input.items limit ≡ Err error) }
 {
-    parse(alloc, input.as_slice(), limit)
+    parse(alloc, input, limit)
 }
 
 /// The image of an object, which is let go.
@@ -114,11 +115,11 @@ pub fn judge(alloc: Global, config: Config, input: Vec<u8>) -> Result<Outcome, A
     ensures holds { IfOk result (OutcomeHolds config input.items) }
 {
     if input.len() > MOST_INPUT {
-        return Ok(Outcome::TooLong);
+        return Ok(Outcome::Refused(Refusal::TooLong));
     }
     match read_object(alloc, input, config.ram) {
         Ok(object) => run_object(alloc, config, object),
         Err(ElfError::OutOfMemory) => Err(AllocError),
-        Err(error) => Ok(Outcome::Misformed(error)),
+        Err(error) => Ok(Outcome::Refused(Refusal::Misformed(error))),
     }
 }

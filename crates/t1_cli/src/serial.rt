@@ -1,29 +1,30 @@
 //! The serial command: words, an input and two outputs in, a status out.
-ghost use Rattle.std.specs.Prelude.{◌≡◌, ◌≢◌, ◌↔◌, ◌≤◌, length, map, string_bytes, None, IfOk, IfSome};
+ghost use Rattle.std.specs.Prelude.{◌≡◌, ◌≢◌, ◌↔◌, ◌≤◌, length, map, string_bytes, None, IfOk, IfErr, IfSome};
 ghost use Rattle.std.specs.Io.KnownBytes.{IsAtEnd};
 ghost use Rattle.t1_io.specs.Causes.{Rose};
 ghost use Rattle.t1_elf.specs.Saved.{saved};
 ghost use Rattle.t1_gen.specs.Guests.{generated};
-ghost use Rattle.t1_cli.specs.Outcome.{name_of, pc_of, elf_line, fault_line, not_built_line};
-ghost use Rattle.t1_cli.specs.Serial.{HasText, HasNoText, AnswersTask, ReadsNothing, TellsLine};
-ghost use Rattle.t1_cli.specs.Verdict.{status_of_verdict, verdict_line_of, Judged, Serves, Guests, ServesTask, Tells};
+ghost use Rattle.t1_cli.specs.Made.{asm_of, dis_of};
+ghost use Rattle.t1_cli.specs.Outcome.{pc_of};
+ghost use Rattle.t1_cli.specs.Serial.{WasLeft, HasText, HasNoText, AnswersTask, ReadsNothing, TellsLine};
+ghost use Rattle.t1_cli.specs.Verdict.{status_of_verdict, OfInput, IsUnread, Judged, Made, Guests, ServesTask, Tells};
 ghost use Rattle.t1_cli.specs.Words.{task_of, IsOneStrand, IsTask};
 
 use crate::command::Task;
+use crate::lines::verdict_line;
 use crate::outcome::Outcome;
+use crate::refusal::Refusal;
 use crate::report::{MOST_INPUT, judge};
 use crate::status::Status;
+use crate::texts::{write_file, write_words};
 use crate::verdict::Verdict;
 use crate::words::read_task;
 use std::alloc::{AllocError, Global};
-use t1_elf::{ElfError, save};
+use t1_elf::save;
 use t1_event::{Config, Ending, Report};
 use t1_gen::generate;
 use t1_io::{ReadError, Sink, Source, read_all, write_all};
-use t1_log::{Line, print_first};
-
-/// The most bytes of a line on err, and room to make it.
-const LINE: usize = 80;
+use t1_log::print_first;
 
 impl Verdict {
     /// The status that a verdict has.
@@ -33,7 +34,7 @@ impl Verdict {
         match self {
             Verdict::Good => Status::Good,
             Verdict::Usage => Status::Usage,
-            Verdict::TooLong | Verdict::Misformed(_) | Verdict::NotBuilt(_) => Status::Refused,
+            Verdict::Refused(_) => Status::Refused,
             Verdict::Fault { number: _, pc: _ } => Status::Fault,
             Verdict::Spent => Status::Spent,
             Verdict::ReadFault => Status::ReadFault,
@@ -41,81 +42,22 @@ impl Verdict {
             Verdict::OutOfMemory => Status::OutOfMemory,
         }
     }
+}
 
-    /// The line that a verdict has on err: it is empty where all is well.
-    #[tactic(auto, unfolding(crate::specs::Verdict::verdict_line_of))]
-    fn line(self) -> Line<LINE>
-        ensures { result ≡ verdict_line_of self }
-    {
-        let mut line = Line::new();
-        match self {
-            Verdict::Good => {}
-            Verdict::Usage => line.text("t1sim: usage\n"),
-            Verdict::TooLong => line.text("t1sim: input too long\n"),
-            Verdict::Misformed(error) => return misformed(error),
-            Verdict::NotBuilt(pc) => return not_built(pc),
-            Verdict::Fault { number, pc } => return fault(number, pc),
-            Verdict::Spent => line.text("t1sim: strand 0 spent\n"),
-            Verdict::ReadFault => line.text("t1sim: read fault\n"),
-            Verdict::WriteFault => line.text("t1sim: write fault\n"),
-            Verdict::OutOfMemory => line.text("t1sim: out of memory\n"),
-        }
-        line
+/// The whole input, or the verdict where it was not read.
+fn read_input<S: Source>(alloc: Global, input: &mut S) -> Result<Vec<u8>, Verdict>
+    ensures read { IfOk result (λ bytes. WasLeft (S.left input.old) bytes.items) }
+    ensures within { IfOk result (λ bytes. length bytes.items ≤ 67108864) }
+    ensures end { IfOk result (λ bytes. IsAtEnd (S.left input.new)) }
+    ensures unread { IfErr result (IsUnread (S.left input.old)) }
+    ensures fault { IfErr result (λ verdict. verdict ≡ Verdict.ReadFault → Rose (S.faults input.old) (S.faults input.new)) }
+{
+    match read_all(alloc, input, MOST_INPUT) {
+        Ok(bytes) => Ok(bytes),
+        Err(ReadError::Failed) => Err(Verdict::ReadFault),
+        Err(ReadError::TooLong) => Err(Verdict::Refused(Refusal::TooLong)),
+        Err(ReadError::OutOfMemory) => Err(Verdict::OutOfMemory),
     }
-}
-
-/// The name of a kind of fault of a file.
-fn name_of(error: ElfError) -> &'static str
-    ensures value { result.now ≡ name_of error }
-    ensures short { length result.now ≤ 16 }
-{
-    match error {
-        ElfError::TooShort => "TooShort",
-        ElfError::NotElf => "NotElf",
-        ElfError::WrongClass => "WrongClass",
-        ElfError::WrongOrder => "WrongOrder",
-        ElfError::WrongMachine => "WrongMachine",
-        ElfError::WrongType => "WrongType",
-        ElfError::BadHeader => "BadHeader",
-        ElfError::Dynamic => "Dynamic",
-        ElfError::NoSegment => "NoSegment",
-        ElfError::SegmentOutside => "SegmentOutside",
-        ElfError::EntryOutside => "EntryOutside",
-        ElfError::EntryMisaligned => "EntryMisaligned",
-        ElfError::OutOfMemory => "OutOfMemory",
-    }
-}
-
-fn misformed(error: ElfError) -> Line<LINE>
-    ensures { result ≡ elf_line error }
-{
-    let mut line = Line::new();
-    line.text("t1sim: elf ");
-    line.text(name_of(error));
-    line.text("\n");
-    line
-}
-
-fn not_built(pc: u64) -> Line<LINE>
-    ensures { result ≡ not_built_line pc }
-{
-    let mut line = Line::new();
-    line.text("t1sim: not built at ");
-    line.hex(16, pc);
-    line.text("\n");
-    line
-}
-
-fn fault(number: u16, pc: u64) -> Line<LINE>
-    ensures { result ≡ fault_line number pc }
-{
-    let mut line = Line::new();
-    line.text("t1sim: strand 0 fault ");
-    line.hex(3, number as u64);
-    line.text(" at ");
-    line.hex(16, pc);
-    line.text("\n");
-    line
 }
 
 /// The PC of the first strand.
@@ -128,19 +70,17 @@ fn first_pc(report: &Report) -> u64
     }
 }
 
-/// Writes what comes of an input.
-fn serve_input<K: Sink>(alloc: Global, config: Config, input: Vec<u8>, out: &mut K) -> Verdict
+/// Writes the log of the run of an input.
+fn write_run<K: Sink>(alloc: Global, config: Config, input: Vec<u8>, out: &mut K) -> Verdict
     requires { IsOneStrand config }
     ensures judged { Judged config input.items (K.held out.old) (K.held out.new) result }
     ensures unchanged { HasNoText (status_of_verdict result) → out.new ≡ out.old }
     ensures fault { result ≡ Verdict.WriteFault → Rose (K.faults out.old) (K.faults out.new) }
-    ensures never { (result ≢ Verdict.Usage) × (result ≢ Verdict.ReadFault) }
+    ensures never { result ≢ Verdict.ReadFault }
 {
     match judge(alloc, config, input) {
         Err(_) => Verdict::OutOfMemory,
-        Ok(Outcome::TooLong) => Verdict::TooLong,
-        Ok(Outcome::Misformed(error)) => Verdict::Misformed(error),
-        Ok(Outcome::NotBuilt(pc)) => Verdict::NotBuilt(pc),
+        Ok(Outcome::Refused(why)) => Verdict::Refused(why),
         Ok(Outcome::Ran(ending, report)) => {
             if print_first(&report, out).is_err() {
                 return Verdict::WriteFault;
@@ -157,7 +97,7 @@ fn serve_input<K: Sink>(alloc: Global, config: Config, input: Vec<u8>, out: &mut
     }
 }
 
-/// Reads the input, runs it and writes its log.
+/// Reads an ELF file, runs it and writes its log.
 fn serve_run<S: Source, K: Sink>(
     alloc: Global,
     config: Config,
@@ -165,18 +105,46 @@ fn serve_run<S: Source, K: Sink>(
     out: &mut K,
 ) -> Verdict
     requires { IsOneStrand config }
-    ensures serves { Serves config (S.left input.old) (K.held out.old) (K.held out.new) result }
+    ensures serves { OfInput (S.left input.old) (λ bytes. Judged config bytes (K.held out.old) (K.held out.new) result) }
     ensures usage { result ≢ Verdict.Usage }
     ensures unchanged { HasNoText (status_of_verdict result) → out.new ≡ out.old }
     ensures read_fault { result ≡ Verdict.ReadFault → Rose (S.faults input.old) (S.faults input.new) }
     ensures write_fault { result ≡ Verdict.WriteFault → Rose (K.faults out.old) (K.faults out.new) }
     ensures end { HasText (status_of_verdict result) → IsAtEnd (S.left input.new) }
 {
-    match read_all(alloc, input, MOST_INPUT) {
-        Ok(bytes) => serve_input(alloc, config, bytes, out),
-        Err(ReadError::Failed) => Verdict::ReadFault,
-        Err(ReadError::TooLong) => Verdict::TooLong,
-        Err(ReadError::OutOfMemory) => Verdict::OutOfMemory,
+    match read_input(alloc, input) {
+        Ok(bytes) => write_run(alloc, config, bytes, out),
+        Err(verdict) => verdict,
+    }
+}
+
+/// Reads an assembly text and writes its file.
+fn serve_asm<S: Source, K: Sink>(alloc: Global, input: &mut S, out: &mut K) -> Verdict
+    ensures serves { OfInput (S.left input.old) (λ bytes. Made (asm_of bytes) (K.held out.old) (K.held out.new) result) }
+    ensures usage { result ≢ Verdict.Usage }
+    ensures unchanged { HasNoText (status_of_verdict result) → out.new ≡ out.old }
+    ensures read_fault { result ≡ Verdict.ReadFault → Rose (S.faults input.old) (S.faults input.new) }
+    ensures write_fault { result ≡ Verdict.WriteFault → Rose (K.faults out.old) (K.faults out.new) }
+    ensures end { HasText (status_of_verdict result) → IsAtEnd (S.left input.new) }
+{
+    match read_input(alloc, input) {
+        Ok(text) => write_file(alloc, text, out),
+        Err(verdict) => verdict,
+    }
+}
+
+/// Reads an ELF file and writes the lines of its words.
+fn serve_dis<S: Source, K: Sink>(alloc: Global, input: &mut S, out: &mut K) -> Verdict
+    ensures serves { OfInput (S.left input.old) (λ bytes. Made (dis_of bytes) (K.held out.old) (K.held out.new) result) }
+    ensures usage { result ≢ Verdict.Usage }
+    ensures unchanged { HasNoText (status_of_verdict result) → out.new ≡ out.old }
+    ensures read_fault { result ≡ Verdict.ReadFault → Rose (S.faults input.old) (S.faults input.new) }
+    ensures write_fault { result ≡ Verdict.WriteFault → Rose (K.faults out.old) (K.faults out.new) }
+    ensures end { HasText (status_of_verdict result) → IsAtEnd (S.left input.new) }
+{
+    match read_input(alloc, input) {
+        Ok(file) => write_words(alloc, file, out),
+        Err(verdict) => verdict,
     }
 }
 
@@ -226,6 +194,8 @@ fn serve<S: Source, K: Sink>(
     match asked {
         None => Verdict::Usage,
         Some(Task::Run { config }) => serve_run(alloc, config, input, out),
+        Some(Task::Asm) => serve_asm(alloc, input, out),
+        Some(Task::Dis) => serve_dis(alloc, input, out),
         Some(Task::Gen { seed, size }) => serve_gen(alloc, seed, size, out),
     }
 }
@@ -241,9 +211,10 @@ fn tell<E: Sink>(err: &mut E, line: &[u8])
 /// status is not good.
 ///
 /// The command `run` takes an ELF file and writes the first log of the run of one strand on one
-/// flat memory; `gen` reads nothing and writes the file of a guest. Until there are the machine of
-/// cores and banks, the assembler, the checker and the threads, all other words are answered as
-/// those that are not in the form.
+/// flat memory; `asm` takes an assembly text and writes its ELF file; `dis` takes an ELF file and
+/// writes a line for each of its words; `gen` reads nothing and writes the ELF file of a guest. Until
+/// there are the machine of cores and banks, the checker and the threads, all other words are
+/// answered as those that are not in the form.
 pub fn t1_serial<S: Source, K: Sink, E: Sink>(
     alloc: Global,
     words: &[String],
@@ -264,6 +235,6 @@ pub fn t1_serial<S: Source, K: Sink, E: Sink>(
 {
     let asked = read_task(words);
     let verdict = serve(alloc, asked, input, out);
-    tell(err, verdict.line().as_slice());
+    tell(err, verdict_line(verdict).as_slice());
     verdict.status()
 }

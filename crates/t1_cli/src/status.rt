@@ -7,8 +7,8 @@ pub enum Status {
     Good,
     /// The words are not in the form of a command that is served.
     Usage,
-    /// The input is too long or no program that can be loaded, or its run met a point that is not
-    /// built.
+    /// The input is too long, no program that can be loaded or no assembly text, or its run met a
+    /// point that is not built.
     Refused,
     /// The text was written whole, and the strand ended by a trap at trap level 6.
     Fault,

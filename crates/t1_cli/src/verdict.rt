@@ -1,18 +1,14 @@
 //! What a command came to.
 
-use t1_elf::ElfError;
+use crate::refusal::Refusal;
 
 /// What a command came to, with all that its line on err tells.
-#[derive(Clone, Copy, Debug, PartialEq, Eq)]
+#[derive(Clone, Copy, Drop)]
 pub enum Verdict {
     Good,
     Usage,
-    /// The input is longer than an input may be.
-    TooLong,
-    /// The input is no program that can be loaded.
-    Misformed(ElfError),
-    /// The run met a point that is not built, at this PC.
-    NotBuilt(u64),
+    /// The input is refused.
+    Refused(Refusal),
     /// The strand ended by a trap of this type at trap level 6.
     Fault { number: u16, pc: u64 },
     Spent,

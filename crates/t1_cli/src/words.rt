@@ -380,6 +380,8 @@ pub(crate) fn read_task(words: &[String]) -> Option<Task>
             seed: None,
             brief: false,
         } if config.cores == 1 && config.strands == 1 => Some(Task::Run { config }),
+        Command::Asm => Some(Task::Asm),
+        Command::Dis => Some(Task::Dis),
         Command::Gen { seed, size } => Some(Task::Gen { seed, size }),
         _ => None,
     }

@@ -1,8 +1,6 @@
-use Rattle.std.proofs.Common.{◌≡◌, ap, sym, ◌∙◌, arith, rules}
-use Rattle.t1_cli.specs.declared.flat.FlatEnd.{FlatEnd}
-use Rattle.t1_cli.specs.declared.flat.FlatEnd.TheVariants.{On}
-use Rattle.t1_cli.specs.Flat.{Flat, flat_at, flat_run, flat_unit, bounds_of}
-use Rattle.t1_cli.proofs.Stopped.{LeadsTo, leads_at_start, leads_on, leads_to_end, same_bounds}
+use Rattle.std.proofs.Common.{ap, sym, ◌∙◌, arith, rules}
+use Rattle.t1_cli.specs.Flat.{flat_at}
+use Rattle.t1_cli.proofs.Stopped.{leads_at_start, leads_on, leads_to_end, same_bounds}
 use Rattle.t1_cli.proofs.run.run_flat.Goals as goal
 
 pub loop-items-init : goal.loop-items-init

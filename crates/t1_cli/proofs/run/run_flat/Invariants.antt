@@ -1,4 +1,4 @@
-use Rattle.std.proofs.Common.{◌≡◌, ◌≤◌, ◌-◌, ◌*◌, length}
+use Rattle.std.proofs.Common.{◌≤◌, ◌-◌, ◌*◌, length}
 use Rattle.std.specs.Prelude.{All}
 use Rattle.t1_log.specs.Printable.{IsPrintableItem}
 use Rattle.t1_state.specs.Registers.{IsStrand, start_of}

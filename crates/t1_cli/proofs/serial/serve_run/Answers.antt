@@ -1,13 +1,17 @@
-use Rattle.std.proofs.Common.{Err, ap, ◌∙◌}
-use Rattle.t1_cli.proofs.Verdicts.{serves_any, serves_too_long}
+use Rattle.std.proofs.Common.{refl}
+use Rattle.t1_cli.proofs.Inputs.{not_read, unread_run}
 use Rattle.t1_cli.proofs.serial.serve_run.Goals as goal
 
-pub returns-in-Err-Failed-clause-serves : goal.returns-in-Err-Failed-clause-serves
-returns-in-Err-Failed-clause-serves g c = serves_any c.args.config _ _ _ _ (λ input. tt)
-
-pub returns-in-Err-TooLong-clause-serves : goal.returns-in-Err-TooLong-clause-serves
-returns-in-Err-TooLong-clause-serves g c =
-    serves_too_long c.args.config _ _ _ _ (c.read_all.ensures.long (c.in-Err-TooLong.is ∙ ap Err c.in-Err-TooLong.field-0-is))
-
-pub returns-in-Err-OutOfMemory-clause-serves : goal.returns-in-Err-OutOfMemory-clause-serves
-returns-in-Err-OutOfMemory-clause-serves g c = serves_any c.args.config _ _ _ _ (λ input. tt)
+pub returns-in-Err : goal.returns-in-Err
+returns-in-Err g c =
+    let left = g.S.Source.left c.args.input.now in
+    let held = g.K.Sink.held c.args.out.now in
+    let none = not_read left c.in-Err.verdict c.in-Err.ensures.unread in
+    record {
+      serves = unread_run c.args.config left held held c.in-Err.verdict c.in-Err.ensures.unread;
+      usage = none.usage;
+      unchanged = λ _. refl;
+      read_fault = c.in-Err.ensures.fault;
+      write_fault = λ e. absurd (none.write_fault e);
+      end = λ text. absurd (none.no_text text);
+    }

@@ -1,0 +1,133 @@
+//! The lines on err.
+ghost use Rattle.std.specs.Prelude.{◌≡◌, ◌≤◌, length};
+ghost use Rattle.t1_cli.specs.Lines.{name_of, fault_name_of, elf_line, asm_line, not_built_line, refusal_line, fault_line};
+ghost use Rattle.t1_cli.specs.Verdict.{verdict_line_of};
+
+use crate::refusal::Refusal;
+use crate::verdict::Verdict;
+use t1_elf::ElfError;
+use t1_log::Line;
+use t1_stmt::fault::Fault;
+
+/// The most bytes of a line on err, and room to make it.
+pub(crate) const LINE: usize = 80;
+
+/// The name of a kind of fault of a file.
+fn name_of(error: ElfError) -> &'static str
+    ensures value { result.now ≡ name_of error }
+    ensures short { length result.now ≤ 16 }
+{
+    match error {
+        ElfError::TooShort => "TooShort",
+        ElfError::NotElf => "NotElf",
+        ElfError::WrongClass => "WrongClass",
+        ElfError::WrongOrder => "WrongOrder",
+        ElfError::WrongMachine => "WrongMachine",
+        ElfError::WrongType => "WrongType",
+        ElfError::BadHeader => "BadHeader",
+        ElfError::Dynamic => "Dynamic",
+        ElfError::NoSegment => "NoSegment",
+        ElfError::SegmentOutside => "SegmentOutside",
+        ElfError::EntryOutside => "EntryOutside",
+        ElfError::EntryMisaligned => "EntryMisaligned",
+        ElfError::OutOfMemory => "OutOfMemory",
+    }
+}
+
+/// The name of a kind of fault of an assembly text.
+fn fault_name_of(fault: Fault) -> &'static str
+    ensures value { result.now ≡ fault_name_of fault }
+    ensures short { length result.now ≤ 16 }
+{
+    match fault {
+        Fault::Syntax => "Syntax",
+        Fault::UnknownName => "UnknownName",
+        Fault::BadOperand => "BadOperand",
+        Fault::OutOfRange => "OutOfRange",
+        Fault::DuplicateLabel => "DuplicateLabel",
+        Fault::MissingLabel => "MissingLabel",
+        Fault::TooLong => "TooLong",
+    }
+}
+
+fn misformed(error: ElfError) -> Line<LINE>
+    ensures { result ≡ elf_line error }
+{
+    let mut line = Line::new();
+    line.text("t1sim: elf ");
+    line.text(name_of(error));
+    line.text("\n");
+    line
+}
+
+fn faulty(number: u32, fault: Fault) -> Line<LINE>
+    ensures { result ≡ asm_line number fault }
+{
+    let mut line = Line::new();
+    line.text("t1sim: asm line ");
+    line.decimal(u64::from(number));
+    line.text(": ");
+    line.text(fault_name_of(fault));
+    line.text("\n");
+    line
+}
+
+fn not_built(pc: u64) -> Line<LINE>
+    ensures { result ≡ not_built_line pc }
+{
+    let mut line = Line::new();
+    line.text("t1sim: not built at ");
+    line.hex(16, pc);
+    line.text("\n");
+    line
+}
+
+fn refused(why: Refusal) -> Line<LINE>
+    ensures { result ≡ refusal_line why }
+{
+    match why {
+        Refusal::TooLong => fixed("t1sim: input too long\n"),
+        Refusal::Misformed(error) => misformed(error),
+        Refusal::Faulty { line, fault } => faulty(line, fault),
+        Refusal::NotBuilt(pc) => not_built(pc),
+    }
+}
+
+fn fault(number: u16, pc: u64) -> Line<LINE>
+    ensures { result ≡ fault_line number pc }
+{
+    let mut line = Line::new();
+    line.text("t1sim: strand 0 fault ");
+    line.hex(3, u64::from(number));
+    line.text(" at ");
+    line.hex(16, pc);
+    line.text("\n");
+    line
+}
+
+/// A line that is always the same.
+fn fixed(text: &str) -> Line<LINE>
+    requires { length text.now ≤ LINE }
+    ensures { result ≡ text.now }
+{
+    let mut line = Line::new();
+    line.text(text);
+    line
+}
+
+/// The line that a verdict has on err: it is empty where all is well.
+#[tactic(auto, unfolding(crate::specs::Verdict::verdict_line_of))]
+pub(crate) fn verdict_line(verdict: Verdict) -> Line<LINE>
+    ensures { result ≡ verdict_line_of verdict }
+{
+    match verdict {
+        Verdict::Good => Line::new(),
+        Verdict::Usage => fixed("t1sim: usage\n"),
+        Verdict::Refused(why) => refused(why),
+        Verdict::Fault { number, pc } => fault(number, pc),
+        Verdict::Spent => fixed("t1sim: strand 0 spent\n"),
+        Verdict::ReadFault => fixed("t1sim: read fault\n"),
+        Verdict::WriteFault => fixed("t1sim: write fault\n"),
+        Verdict::OutOfMemory => fixed("t1sim: out of memory\n"),
+    }
+}

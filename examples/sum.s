@@ -1,0 +1,7 @@
+! Adds, stores and loads: a sum goes to memory and is read back.
+        .org 0x100
+        mov 2, %g1
+        add %g1, 3, %g1
+        stx %g1, [0x200]
+        ldx [0x200], %g2
+        wr %g0, 0, %asr26               ! halts the strand
