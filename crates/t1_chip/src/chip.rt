@@ -128,17 +128,17 @@ impl Chip {
         }
     }
 
-    /// Does the slot of a number: Idle exactly where it is not enabled, and then nothing changes.
+    /// Does the slot of a number: Idle exactly where it is not enabled, and then nothing changes. Whatever
+    /// slots were done, the chip stands as [`Chip::stands`] says.
     pub fn step(&mut self, number: u8) -> Step
         requires { number < 58 }
         ensures state { self.new ≡ record self.old { machine = after_slot self.old.machine (slot_at T1 number) } }
         ensures done { is_done result ≡ is_enabled self.old.machine (slot_at T1 number) }
+        ensures stands { Stands self.new.setup self.new.machine }
     {
-        if self.attempt(number) {
-            Step::Done
-        } else {
-            Step::Idle
-        }
+        let is_done = self.attempt(number);
+        self.stands();
+        if is_done { Step::Done } else { Step::Idle }
     }
 
     /// Whether a slot is enabled.
@@ -233,13 +233,15 @@ impl Chip {
     }
 
     /// The report of a run in which no slot is enabled any more: the traces of all strands, core by core,
-    /// the log, the memory order, which obeys total store order, and the bytes that reached the console.
-    /// Takes no memory.
+    /// and the log, which are a joint history, the memory order, which obeys total store order, and the
+    /// bytes that reached the console. Takes no memory.
     pub fn into_report(self) -> Report
         requires { NoneEnabled self.machine }
         ensures report { Reported self result }
+        ensures history { Ends self.setup self.machine }
         ensures obeys { Reports self.setup self.machine result.order }
     {
+        self.ends();
         let Chip {
             config,
             image,
@@ -289,11 +291,13 @@ impl Chip {
     pub fn run(&mut self, schedule: Schedule)
         ensures machine { RunsToEnd self.old schedule self.new }
         ensures finished { NoneEnabled self.new.machine }
+        ensures stands { Stands self.new.setup self.new.machine }
     {
         match schedule {
             Schedule::Turns => self.run_turns(),
             Schedule::Seed(seed) => self.run_seed(seed),
         }
+        self.stands();
     }
 }
 
