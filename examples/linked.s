@@ -1,4 +1,5 @@
 ! A guest that GNU as and GNU ld make: with sections, a note, and a stack segment of no size.
+! Its log: --cores 1 --strands 1 --ram 2097152 --budget 10
         .section .note.guest, "a", @note
         .align  4
         .word   4, 4, 1

@@ -4,16 +4,17 @@ use Rattle.std.specs.Prelude.{OnOk, OnErr, is_err}
 use Rattle.std.proofs.lemmas.Bool.{lt-ltb, le-ltb}
 use Rattle.t1_io.specs.Whole.{GaveMore}
 use Rattle.t1_elf.specs.Parsed.{parsed}
-use Rattle.t1_event.specs.declared.report.Config.{Config}
 use Rattle.t1_text.specs.Files.{file_of}
+use Rattle.t1_cli.specs.declared.command.Run.{Run}
 use Rattle.t1_cli.specs.declared.refusal.Refusal.{Refusal}
 use Rattle.t1_cli.specs.declared.refusal.Refusal.TheVariants as refusal
 use Rattle.t1_cli.specs.declared.verdict.Verdict.{Verdict}
 use Rattle.t1_cli.specs.declared.verdict.Verdict.TheVariants as verdict
-use Rattle.t1_cli.specs.Made.{is_long, unless_long, asm_of, dis_of, file_or_fault, lines_or_error}
-use Rattle.t1_cli.specs.Outcome.{most_input}
+use Rattle.t1_cli.specs.Made.{unless_long, asm_of, dis_of, file_or_fault, lines_or_error}
+use Rattle.t1_cli.specs.Runs.{most_input, is_long}
 use Rattle.t1_cli.specs.Serial.{WasLeft, HasText}
-use Rattle.t1_cli.specs.Verdict.{status_of_verdict, OfInput, IsUnread, Judged, IsText, Made, FaultTold}
+use Rattle.t1_cli.specs.Statuses.{status_of_verdict}
+use Rattle.t1_cli.specs.Verdict.{OfInput, IsUnread, Judged, IsText, Made, FaultTold}
 use Rattle.t1_cli.proofs.Reports.{too_long}
 
 -- an input that was left
@@ -51,8 +52,8 @@ not_read left verdict.ReadFault unread = record { usage = λ e. cc; write_fault 
 not_read left verdict.OutOfMemory unread = record { usage = λ e. cc; write_fault = λ e. cc; no_text = λ text. text }
 not_read left verdict.Good unread = absurd unread
 not_read left verdict.Usage unread = absurd unread
-not_read left (verdict.Fault number pc) unread = absurd unread
-not_read left verdict.Spent unread = absurd unread
+not_read left (verdict.Fault strand number pc) unread = absurd unread
+not_read left (verdict.Spent strand) unread = absurd unread
 not_read left verdict.WriteFault unread = absurd unread
 
 -- of a command that says this of an input
@@ -66,16 +67,15 @@ unread_says left (verdict.Refused refusal.TooLong) says failed wanting long unre
     record { input = unread.input; read = unread.read; holds = long unread.input unread.holds }
 unread_says left (verdict.Refused (refusal.Misformed error)) says failed wanting long unread = absurd unread
 unread_says left (verdict.Refused (refusal.Faulty line fault)) says failed wanting long unread = absurd unread
-unread_says left (verdict.Refused (refusal.NotBuilt pc)) says failed wanting long unread = absurd unread
 unread_says left verdict.Good says failed wanting long unread = absurd unread
 unread_says left verdict.Usage says failed wanting long unread = absurd unread
-unread_says left (verdict.Fault number pc) says failed wanting long unread = absurd unread
-unread_says left verdict.Spent says failed wanting long unread = absurd unread
+unread_says left (verdict.Fault strand number pc) says failed wanting long unread = absurd unread
+unread_says left (verdict.Spent strand) says failed wanting long unread = absurd unread
 unread_says left verdict.WriteFault says failed wanting long unread = absurd unread
 
-pub unread_run : (config : Config) (left old new : Option (List ℕ)) (v : Verdict) → IsUnread left v → OfInput left (λ input. Judged config input old new v)
-unread_run config left old new v unread =
-    unread_says left v (λ input w. Judged config input old new w) (λ input. tt) (λ input. tt) (λ input long. sym (too_long config input long)) unread
+pub unread_run : (run : Run) (left old new : Option (List ℕ)) (v : Verdict) → IsUnread left v → OfInput left (λ input. Judged run input old new v)
+unread_run run left old new v unread =
+    unread_says left v (λ input w. Judged run input old new w) (λ input. tt) (λ input. tt) (λ input long. too_long run.config input long) unread
 
 unread_text : (makes : List ℕ → Result (List ℕ) Refusal) (left old new : Option (List ℕ)) (v : Verdict)
     → ((input : List ℕ) → most_input < length input → makes input ≡ Err refusal.TooLong)
@@ -113,11 +113,10 @@ fault_made text old new (verdict.Refused (refusal.Faulty line fault)) short told
 fault_made text old new verdict.OutOfMemory short told = tt
 fault_made text old new (verdict.Refused refusal.TooLong) short told = absurd told
 fault_made text old new (verdict.Refused (refusal.Misformed error)) short told = absurd told
-fault_made text old new (verdict.Refused (refusal.NotBuilt pc)) short told = absurd told
 fault_made text old new verdict.Good short told = absurd told
 fault_made text old new verdict.Usage short told = absurd told
-fault_made text old new (verdict.Fault number pc) short told = absurd told
-fault_made text old new verdict.Spent short told = absurd told
+fault_made text old new (verdict.Fault strand number pc) short told = absurd told
+fault_made text old new (verdict.Spent strand) short told = absurd told
 fault_made text old new verdict.ReadFault short told = absurd told
 fault_made text old new verdict.WriteFault short told = absurd told
 

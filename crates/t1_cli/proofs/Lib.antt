@@ -1,7 +1,5 @@
-pub mod Stopped
-pub mod Acted
-pub mod FlatSound
-pub mod Reports
 pub mod Limits
+pub mod Reports
 pub mod Inputs
+pub mod Endings
 pub mod Verdicts

@@ -1,15 +1,39 @@
 -- What is known of the machine that the words ask for, and of words one after another.
-use Rattle.std.proofs.Common.{◌≡◌, ℕ, suc, ◌+◌, ◌*◌, ◌%◌, ◌<◌, ◌≤◌, ◌==◌, ◌&&◌, nat_le, Bool, true, List, ◌∷◌, length, drop, map, get_or, Option, Some, None, refl, ap, sym, ◌∙◌, arith}
-use Rattle.std.proofs.lemmas.Bool.{and_parts, leb-true, eqb-true}
+use Rattle.std.proofs.Common.{◌≡◌, ℕ, suc, ◌+◌, ◌*◌, ◌%◌, ◌<◌, ◌≤◌, ◌==◌, ◌&&◌, ◌||◌, inl, inr, nat_le, Bool, true, List, ◌∷◌, length, drop, map, get_or, Option, Some, None, refl, ap, sym, ◌∙◌, subst, arith}
+use Rattle.std.proofs.lemmas.Bool.{and_parts, or_cases, leb-true, eqb-true}
 use Rattle.std.proofs.Math.ListN.{drop_of_length-le}
 use Rattle.std.proofs.Math.Seq.{drop-cons}
+use Rattle.t1_elf.specs.declared.object.Image.{Image}
 use Rattle.t1_event.specs.declared.report.Config.{Config}
+use Rattle.t1_machine.specs.Start.{IsRunnable, setup_of}
 use Rattle.t1_cli.specs.declared.command.Reading.{Reading}
-use Rattle.t1_cli.specs.Words.{is_set_count, is_in_limits, read_next, ended, options_after, IsOneStrand}
+use Rattle.t1_cli.specs.Words.{is_set_count, is_in_limits, read_next, ended, options_after}
 
-pub one_strand : (config : Config) → is_in_limits config ≡ true → config.cores ≡ 1 → config.strands ≡ 1 → IsOneStrand config
+-- ---- limits
+
+abbrev IsFew : ℕ → Type 0
+IsFew n = (0 < n) × (n ≤ 1024)
+
+-- a number that is this one, or that is within bounds by what comes later
+or_few : (n k : ℕ) (later : Bool) → IsFew k → (later ≡ true → IsFew n) → ((n == k) || later) ≡ true → IsFew n
+or_few n k later few rest h = elim (or_cases (n == k) later h) [
+  inl is ↦ subst (λ (m : ℕ). IsFew m) (sym (eqb-true n k is)) few
+  | inr more ↦ rest more
+]
+
+few_sets : (n : ℕ) → is_set_count n ≡ true → IsFew n
+unfolding is_set_count
+few_sets n =
+    or_few n 1 _ (omega arith, omega arith) (or_few n 2 _ (omega arith, omega arith) (or_few n 4 _ (omega arith, omega arith)
+    (or_few n 8 _ (omega arith, omega arith) (or_few n 16 _ (omega arith, omega arith) (or_few n 32 _ (omega arith, omega arith)
+    (or_few n 64 _ (omega arith, omega arith) (or_few n 128 _ (omega arith, omega arith) (or_few n 256 _ (omega arith, omega arith)
+    (or_few n 512 _ (omega arith, omega arith) (λ h. subst (λ (m : ℕ). IsFew m) (sym (eqb-true n 1024 h)) (omega arith, omega arith)))))))))))
+
+-- a machine within the limits, with an image of its RAM and an aligned entry, can be run
+pub runnable : (config : Config) (image : Image) → is_in_limits config ≡ true → length image.ram ≡ config.ram → image.entry % 4 ≡ 0
+    → IsRunnable (setup_of config image)
 unfolding is_in_limits
-one_strand config h core_is strand_is =
+runnable config image h size entry =
     let cores : Bool = nat_le 1 config.cores && nat_le config.cores 8 in
     let strands : Bool = nat_le 1 config.strands && nat_le config.strands 4 in
     let low : Bool = nat_le 65536 config.ram in
@@ -20,20 +44,30 @@ one_strand config h core_is strand_is =
     let few : Bool = nat_le config.budget 1000000 in
     let all : Bool = nat_le (config.budget * (config.cores * config.strands)) 1000000 in
     let a = and_parts cores (strands && ((low && (most && blocks)) && (sets && (some && (few && all))))) h in
+    let core = and_parts (nat_le 1 config.cores) (nat_le config.cores 8) a.0 in
     let b = and_parts strands ((low && (most && blocks)) && (sets && (some && (few && all)))) a.1 in
+    let strand = and_parts (nat_le 1 config.strands) (nat_le config.strands 4) b.0 in
     let c = and_parts (low && (most && blocks)) (sets && (some && (few && all))) b.1 in
     let d = and_parts low (most && blocks) c.0 in
     let e = and_parts most blocks d.1 in
     let f = and_parts sets (some && (few && all)) c.1 in
     let g = and_parts some (few && all) f.1 in
     let k = and_parts few all g.1 in
+    let counts = few_sets config.sets f.0 in
     record {
-      cores = core_is;
-      strands = strand_is;
-      ram = leb-true 65536 config.ram d.0;
-      most = leb-true config.ram 268435456 e.0;
+      shape = refl;
+      some_cores = leb-true 1 config.cores core.0;
+      few_cores = leb-true config.cores 8 core.1;
+      some_strands = leb-true 1 config.strands strand.0;
+      few_strands = leb-true config.strands 4 strand.1;
       blocks = eqb-true (config.ram % 65536) 0 e.1;
-      budget = leb-true config.budget 1000000 k.0;
+      few_bytes = leb-true config.ram 268435456 e.0;
+      some_sets = counts.0;
+      few_sets = counts.1;
+      some_units = leb-true 1 config.budget g.0;
+      few_units = leb-true (config.budget * (config.cores * config.strands)) 1000000 k.1;
+      image = size;
+      entry = entry;
     }
 
 -- ---- words one after another

@@ -4,24 +4,18 @@ use Rattle.std.specs.Prelude.{OnOk, OnErr}
 use Rattle.std.specs.Io.KnownBytes.{IsAtEnd}
 use Rattle.t1_io.specs.Causes.{HasCause}
 use Rattle.t1_io.specs.Held.{Grew, GrewPart}
-use Rattle.t1_event.specs.declared.report.Config.{Config}
-use Rattle.t1_event.specs.declared.report.Report.{Report}
-use Rattle.t1_event.specs.declared.trace.Ending.{Ending}
-use Rattle.t1_event.specs.declared.trace.Ending.TheVariants as ending
-use Rattle.t1_log.specs.FirstLog.{first_log_of}
+use Rattle.t1_cli.specs.declared.command.Run.{Run}
 use Rattle.t1_cli.specs.declared.command.Task.{Task}
 use Rattle.t1_cli.specs.declared.command.Task.TheVariants as task
-use Rattle.t1_cli.specs.declared.outcome.Outcome.TheVariants.{Refused, Ran}
 use Rattle.t1_cli.specs.declared.refusal.Refusal.{Refusal}
 use Rattle.t1_cli.specs.declared.status.Status.{Status}
 use Rattle.t1_cli.specs.declared.status.Status.TheVariants as status
 use Rattle.t1_cli.specs.declared.verdict.Verdict.{Verdict}
 use Rattle.t1_cli.specs.declared.verdict.Verdict.TheVariants as verdict
 use Rattle.t1_cli.specs.Made.{asm_of, dis_of}
-use Rattle.t1_cli.specs.Outcome.{outcome_of, status_of, status_of_ending}
-use Rattle.t1_cli.specs.Printed.{IsReportOfInput}
-use Rattle.t1_cli.specs.Serial.{WasLeft, HasText, Answers, AnswersInput, AnswersRun, AnswersText, AnswersGen, AnswersTask, ReadsNothing, TellsLine, status_of_run, status_of_made, status_of_text}
-use Rattle.t1_cli.specs.Verdict.{status_of_verdict, RanInPart, Judged, Made, Guests, ServesTask}
+use Rattle.t1_cli.specs.Serial.{WasLeft, HasText, Answers, AnswersInput, PrintsRun, EndedAs, AnswersRun, AnswersText, AnswersGen, AnswersTask, ReadsNothing, TellsLine, status_of_made, status_of_text}
+use Rattle.t1_cli.specs.Statuses.{status_of_verdict}
+use Rattle.t1_cli.specs.Verdict.{RanTo, EndedIn, Judged, Made, Guests, ServesTask}
 
 -- ---- lines on err
 
@@ -56,91 +50,30 @@ answers_any : (expects : List ℕ → Status) (left : Option (List ℕ)) (result
 answers_any expects None result any = tt
 answers_any expects (Some left) result any = any (expects left)
 
-abbrev IsOther : Status → Type 0
-IsOther status.Refused = ⊥
-IsOther status.WriteFault = ⊥
-IsOther _ = Unit {0}
-
--- another status than that of a refusal and of a failed write
-no_refusal : (result : Status) → IsOther result → result ≡ status.Refused → ⊥
-no_refusal result other is = let P : Status → Type 0 = λ r. IsOther r in subst P is other
-
-no_write_fault : (result : Status) → IsOther result → result ≡ status.WriteFault → ⊥
-no_write_fault result other is = let P : Status → Type 0 = λ r. IsOther r in subst P is other
-
-ending_is_other : (e : Ending) → IsOther (status_of_ending e)
-ending_is_other ending.Halted = tt
-ending_is_other ending.Spent = tt
-ending_is_other (ending.Fault number) = tt
-
 -- ---- the command run
 
--- a run that ended
-ended_answers : (config : Config) (left left' old new : Option (List ℕ)) (input : List ℕ) (e : Ending) (report : Report) → WasLeft left input
-    → outcome_of config input ≡ Ran e report → IsReportOfInput config input e report → Grew old new (first_log_of report)
-    → (HasText (status_of_ending e) → IsAtEnd left') → AnswersRun config left left' old new (status_of_ending e)
-ended_answers config left left' old new input e report read is is_report printed end = record {
-  exact = answers_input (status_of_run config) left input (status_of_ending e) read (ap status_of is);
-  refused = λ bad. absurd (no_refusal (status_of_ending e) (ending_is_other e) bad);
-  ran = λ _. record { input = input; read = read; ending = e; report = report; outcome = is; is_report = is_report; status_is = refl; printed = printed };
-  front = λ bad. absurd (no_write_fault (status_of_ending e) (ending_is_other e) bad);
-  end = end;
-}
+-- a verdict of a run that ended, and its status
+ended_answers : (run : Run) (left left' old new : Option (List ℕ)) (input : List ℕ) (v : Verdict) (result : Status) → status_of_verdict v ≡ result
+    → WasLeft left input → RanTo run input (EndedIn v) (Grew old new) → IsAtEnd left' → PrintsRun run left (EndedAs result) (Grew old new) × IsAtEnd left'
+ended_answers run left left' old new input v result is read j end = (
+  record { input = input; read = read; report = j.report; is_report = j.is_report; came = ap status_of_verdict j.came ∙ is; printed = j.printed },
+  end,
+)
 
-refused_is : status.Refused ≡ status.WriteFault → ⊥
-refused_is bad = cc
-
-write_fault_is : status.WriteFault ≡ status.Refused → ⊥
-write_fault_is bad = cc
-
--- an input that was refused
-refused_answers : (config : Config) (left left' old new : Option (List ℕ)) (input : List ℕ) (why : Refusal) → WasLeft left input
-    → outcome_of config input ≡ Refused why → AnswersRun config left left' old new status.Refused
-refused_answers config left left' old new input why read is = record {
-  exact = answers_input (status_of_run config) left input status.Refused read (ap status_of is);
-  refused = λ _. record { input = input; read = read; why = why; refused = is };
-  ran = λ text. absurd text;
-  front = λ bad. absurd (refused_is bad);
-  end = λ text. absurd text;
-}
-
--- a device that failed, or want of memory
-failed_answers : (config : Config) (left left' old new : Option (List ℕ)) (result : Status) → ((expected : Status) → Answers result expected)
-    → IsOther result → (HasText result → ⊥) → AnswersRun config left left' old new result
-failed_answers config left left' old new result any other no_text = record {
-  exact = answers_any (status_of_run config) left result any;
-  refused = λ bad. absurd (no_refusal result other bad);
-  ran = λ text. absurd (no_text text);
-  front = λ bad. absurd (no_write_fault result other bad);
-  end = λ text. absurd (no_text text);
-}
-
--- a write that failed
-written_answers : (config : Config) (left left' old new : Option (List ℕ)) (input : List ℕ) → WasLeft left input → RanInPart config input old new
-    → AnswersRun config left left' old new status.WriteFault
-written_answers config left left' old new input read part = record {
-  exact = answers_any (status_of_run config) left status.WriteFault (λ expected. tt);
-  refused = λ bad. absurd (write_fault_is bad);
-  ran = λ text. absurd text;
-  front = λ _. record { input = input; read = read; ending = part.ending; report = part.report; outcome = part.outcome; is_report = part.is_report; printed = part.printed };
-  end = λ text. absurd text;
-}
-
-run_answers : (config : Config) (left left' old new : Option (List ℕ)) (v : Verdict) (input : List ℕ) → WasLeft left input → Judged config input old new v
-    → (HasText (status_of_verdict v) → IsAtEnd left') → AnswersRun config left left' old new (status_of_verdict v)
-run_answers config left left' old new verdict.Good input read j end =
-    ended_answers config left left' old new input ending.Halted j.report read j.outcome j.is_report j.printed end
-run_answers config left left' old new verdict.Spent input read j end =
-    ended_answers config left left' old new input ending.Spent j.report read j.outcome j.is_report j.printed end
-run_answers config left left' old new (verdict.Fault number pc) input read j end =
-    ended_answers config left left' old new input (ending.Fault number) j.report read j.outcome j.is_report j.printed end
-run_answers config left left' old new verdict.Usage input read j end = absurd j
-run_answers config left left' old new (verdict.Refused why) input read j end = refused_answers config left left' old new input why read j
-run_answers config left left' old new verdict.ReadFault input read j end =
-    failed_answers config left left' old new status.ReadFault (λ expected. tt) tt (λ text. text)
-run_answers config left left' old new verdict.OutOfMemory input read j end =
-    failed_answers config left left' old new status.OutOfMemory (λ expected. tt) tt (λ text. text)
-run_answers config left left' old new verdict.WriteFault input read j end = written_answers config left left' old new input read j
+run_answers : (run : Run) (left left' old new : Option (List ℕ)) (v : Verdict) (input : List ℕ) → WasLeft left input → Judged run input old new v
+    → (HasText (status_of_verdict v) → IsAtEnd left') → AnswersRun run left left' old new (status_of_verdict v)
+run_answers run left left' old new verdict.Good input read j end =
+    ended_answers run left left' old new input verdict.Good status.Good refl read j (end tt)
+run_answers run left left' old new (verdict.Spent strand) input read j end =
+    ended_answers run left left' old new input (verdict.Spent strand) status.Spent refl read j (end tt)
+run_answers run left left' old new (verdict.Fault strand number pc) input read j end =
+    ended_answers run left left' old new input (verdict.Fault strand number pc) status.Fault refl read j (end tt)
+run_answers run left left' old new verdict.Usage input read j end = absurd j
+run_answers run left left' old new (verdict.Refused why) input read j end = record { input = input; read = read; why = why; refused = j }
+run_answers run left left' old new verdict.ReadFault input read j end = tt
+run_answers run left left' old new verdict.OutOfMemory input read j end = tt
+run_answers run left left' old new verdict.WriteFault input read j end =
+    record { input = input; read = read; report = j.report; is_report = j.is_report; came = tt; printed = j.printed }
 
 -- ---- the commands asm and dis
 
@@ -163,8 +96,8 @@ text_answers makes left left' old new verdict.ReadFault input read j end =
 text_answers makes left left' old new verdict.OutOfMemory input read j end =
     record { exact = answers_any (status_of_text makes) left status.OutOfMemory (λ expected. tt); came = tt }
 text_answers makes left left' old new verdict.Usage input read j end = absurd j
-text_answers makes left left' old new (verdict.Fault number pc) input read j end = absurd j
-text_answers makes left left' old new verdict.Spent input read j end = absurd j
+text_answers makes left left' old new (verdict.Fault strand number pc) input read j end = absurd j
+text_answers makes left left' old new (verdict.Spent strand) input read j end = absurd j
 
 -- ---- the command gen
 
@@ -174,8 +107,8 @@ gen_answers seed size old new verdict.WriteFault came = came
 gen_answers seed size old new verdict.OutOfMemory came = came
 gen_answers seed size old new verdict.Usage came = absurd came
 gen_answers seed size old new (verdict.Refused why) came = absurd came
-gen_answers seed size old new (verdict.Fault number pc) came = absurd came
-gen_answers seed size old new verdict.Spent came = absurd came
+gen_answers seed size old new (verdict.Fault strand number pc) came = absurd came
+gen_answers seed size old new (verdict.Spent strand) came = absurd came
 gen_answers seed size old new verdict.ReadFault came = absurd came
 
 -- ---- all commands
@@ -184,8 +117,8 @@ verdict_answers : (asked : Option Task) (left left' old new : Option (List ℕ))
     → ((ReadsNothing asked → ⊥) → HasText (status_of_verdict v) → IsAtEnd left')
     → AnswersTask asked left left' old new (status_of_verdict v)
 verdict_answers None left left' old new v serves end = ap status_of_verdict serves
-verdict_answers (Some (task.Run config)) left left' old new v serves end =
-    run_answers config left left' old new v serves.input serves.read serves.holds (end (λ bad. bad))
+verdict_answers (Some (task.Run run)) left left' old new v serves end =
+    run_answers run left left' old new v serves.input serves.read serves.holds (end (λ bad. bad))
 verdict_answers (Some task.Asm) left left' old new v serves end =
     text_answers asm_of left left' old new v serves.input serves.read serves.holds (end (λ bad. bad))
 verdict_answers (Some task.Dis) left left' old new v serves end =
@@ -211,8 +144,8 @@ usage_back : (v : Verdict) → status_of_verdict v ≡ status.Usage → v ≡ ve
 usage_back verdict.Usage h = refl
 usage_back verdict.Good h = cc
 usage_back (verdict.Refused why) h = cc
-usage_back (verdict.Fault number pc) h = cc
-usage_back verdict.Spent h = cc
+usage_back (verdict.Fault strand number pc) h = cc
+usage_back (verdict.Spent strand) h = cc
 usage_back verdict.ReadFault h = cc
 usage_back verdict.WriteFault h = cc
 usage_back verdict.OutOfMemory h = cc

@@ -1,9 +1,8 @@
-pub mod Flat
 pub mod Words
-pub mod Outcome
+pub mod Runs
 pub mod Lines
 pub mod Made
 pub mod Codes
-pub mod Printed
+pub mod Statuses
 pub mod Serial
 pub mod Verdict

@@ -6,7 +6,7 @@ use Rattle.t1_log.specs.Hex.{hex_of}
 use Rattle.t1_stmt.specs.declared.fault.Fault.{Fault}
 use Rattle.t1_stmt.specs.declared.fault.Fault.TheVariants as fault
 use Rattle.t1_cli.specs.declared.refusal.Refusal.{Refusal}
-use Rattle.t1_cli.specs.declared.refusal.Refusal.TheVariants.{TooLong, Misformed, Faulty, NotBuilt}
+use Rattle.t1_cli.specs.declared.refusal.Refusal.TheVariants.{TooLong, Misformed, Faulty}
 
 -- the name of a kind of fault of a file
 abbrev pub name_of : ElfError → List ℕ
@@ -40,14 +40,14 @@ elf_line error = codes "t1sim: elf " ++ (name_of error ++ codes "\n")
 abbrev pub asm_line : ℕ → Fault → List ℕ
 asm_line line fault = codes "t1sim: asm line " ++ (decimal line ++ (codes ": " ++ (fault_name_of fault ++ codes "\n")))
 
-abbrev pub not_built_line : ℕ → List ℕ
-not_built_line pc = codes "t1sim: not built at " ++ (hex_of 16 pc ++ codes "\n")
-
 abbrev pub refusal_line : Refusal → List ℕ
 refusal_line TooLong = codes "t1sim: input too long\n"
 refusal_line (Misformed error) = elf_line error
 refusal_line (Faulty line fault) = asm_line line fault
-refusal_line (NotBuilt pc) = not_built_line pc
 
-abbrev pub fault_line : ℕ → ℕ → List ℕ
-fault_line number pc = codes "t1sim: strand 0 fault " ++ (hex_of 3 number ++ (codes " at " ++ (hex_of 16 pc ++ codes "\n")))
+abbrev pub fault_line : ℕ → ℕ → ℕ → List ℕ
+fault_line strand number pc =
+    codes "t1sim: strand " ++ (decimal strand ++ (codes " fault " ++ (hex_of 3 number ++ (codes " at " ++ (hex_of 16 pc ++ codes "\n")))))
+
+abbrev pub spent_line : ℕ → List ℕ
+spent_line strand = codes "t1sim: strand " ++ (decimal strand ++ codes " spent\n")

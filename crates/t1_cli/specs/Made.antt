@@ -1,5 +1,5 @@
 -- What the commands asm and dis make of an input: a text, or why the input is refused.
-use Rattle.std.specs.Prelude.{ℕ, ◌^◌, nat_lt, Bool, true, false, List, length, Result, Ok, Err}
+use Rattle.std.specs.Prelude.{ℕ, ◌^◌, Bool, true, false, List, Result, Ok, Err}
 use Rattle.t1_elf.specs.declared.error.ElfError.{ElfError}
 use Rattle.t1_elf.specs.declared.object.Object.{Object}
 use Rattle.t1_elf.specs.Parsed.{parsed}
@@ -8,10 +8,7 @@ use Rattle.t1_text.specs.Files.{file_of}
 use Rattle.t1_text.specs.Words.{object_lines_of}
 use Rattle.t1_cli.specs.declared.refusal.Refusal.{Refusal}
 use Rattle.t1_cli.specs.declared.refusal.Refusal.TheVariants.{TooLong, Misformed, Faulty}
-use Rattle.t1_cli.specs.Outcome.{most_input}
-
-abbrev pub is_long : List ℕ → Bool
-is_long input = nat_lt most_input (length input)
+use Rattle.t1_cli.specs.Runs.{is_long}
 
 -- what is made of an input, where it is not too long
 abbrev pub unless_long : Bool → Result (List ℕ) Refusal → Result (List ℕ) Refusal

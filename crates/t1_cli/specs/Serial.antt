@@ -4,20 +4,17 @@ use Rattle.std.specs.Io.KnownBytes.{IsAtEnd}
 use Rattle.t1_io.specs.Causes.{Rose}
 use Rattle.t1_io.specs.Held.{Grew, GrewPart}
 use Rattle.t1_elf.specs.Saved.{saved}
-use Rattle.t1_event.specs.declared.report.Config.{Config}
 use Rattle.t1_event.specs.declared.report.Report.{Report}
-use Rattle.t1_event.specs.declared.trace.Ending.{Ending}
 use Rattle.t1_gen.specs.Guests.{generated}
-use Rattle.t1_log.specs.FirstLog.{first_log_of}
+use Rattle.t1_cli.specs.declared.command.Run.{Run}
 use Rattle.t1_cli.specs.declared.command.Task.{Task}
 use Rattle.t1_cli.specs.declared.command.Task.TheVariants as task
-use Rattle.t1_cli.specs.declared.outcome.Outcome.TheVariants.{Refused, Ran}
 use Rattle.t1_cli.specs.declared.refusal.Refusal.{Refusal}
 use Rattle.t1_cli.specs.declared.status.Status.{Status}
 use Rattle.t1_cli.specs.declared.status.Status.TheVariants as status
 use Rattle.t1_cli.specs.Made.{asm_of, dis_of}
-use Rattle.t1_cli.specs.Outcome.{outcome_of, status_of, status_of_ending}
-use Rattle.t1_cli.specs.Printed.{IsReportOfInput}
+use Rattle.t1_cli.specs.Runs.{IsReportOfInput, printed_of, refusal_of, ended_of}
+use Rattle.t1_cli.specs.Statuses.{status_of_verdict}
 
 -- the input is what the source had left, where it tells it
 abbrev pub WasLeft : Option (List ℕ) → List ℕ → Type 0
@@ -67,45 +64,37 @@ AnswersInput expected (Some left) result = Answers result (expected left)
 
 -- ---- the command run
 
--- the input ran to an ending of this status, and what was written grew by exactly its first log
-pub record PrintsRun (config : Config) (left old new : Option (List ℕ)) (result : Status) : Type 0 where
+-- a run of the input has this report, of which this holds, and what was written grew by its text in this way
+pub record PrintsRun (run : Run) (left : Option (List ℕ)) (ended : Report → Type 0) (grew : List ℕ → Type 0) : Type 0 where
   pub input : List ℕ
   pub read : WasLeft left input
-  pub ending : Ending
   pub report : Report
-  pub outcome : outcome_of config input ≡ Ran ending report
-  pub is_report : IsReportOfInput config input ending report
-  pub status_is : status_of_ending ending ≡ result
-  pub printed : Grew old new (first_log_of report)
+  pub is_report : IsReportOfInput run input report
+  pub came : ended report
+  pub printed : grew (printed_of run.brief report)
 
--- the input ran, and what was written grew by a front of its first log
-pub record PrintsFront (config : Config) (left old new : Option (List ℕ)) : Type 0 where
-  pub input : List ℕ
-  pub read : WasLeft left input
-  pub ending : Ending
-  pub report : Report
-  pub outcome : outcome_of config input ≡ Ran ending report
-  pub is_report : IsReportOfInput config input ending report
-  pub printed : GrewPart old new (first_log_of report)
-
--- the input is too long, or no program that can be loaded, or its run met a point that is not built
-pub record Refuses (config : Config) (left : Option (List ℕ)) : Type 0 where
+-- the input is too long, or no program that can be loaded
+pub record RefusesRun (run : Run) (left : Option (List ℕ)) : Type 0 where
   pub input : List ℕ
   pub read : WasLeft left input
   pub why : Refusal
-  pub refused : outcome_of config input ≡ Refused why
+  pub refused : refusal_of run.config input ≡ Some why
 
--- the status that is expected of an input
-abbrev pub status_of_run : Config → List ℕ → Status
-status_of_run config input = status_of (outcome_of config input)
+-- how the strands ended is told by this status
+abbrev pub EndedAs : Status → Report → Type 0
+EndedAs result report = status_of_verdict (ended_of report.traces) ≡ result
 
--- what a status of the command run says of what was read and of what was written
-pub record AnswersRun (config : Config) (left left' old new : Option (List ℕ)) (result : Status) : Type 0 where
-  pub exact : AnswersInput (status_of_run config) left result
-  pub refused : result ≡ status.Refused → Refuses config left
-  pub ran : HasText result → PrintsRun config left old new result
-  pub front : result ≡ status.WriteFault → PrintsFront config left old new
-  pub end : HasText result → IsAtEnd left'
+-- the whole text was written, or a front of it; the input is refused; a read failed, or memory was wanting
+abbrev pub AnswersRun : Run → Option (List ℕ) → Option (List ℕ) → Option (List ℕ) → Option (List ℕ) → Status → Type 0
+AnswersRun run left left' old new status.Good = PrintsRun run left (EndedAs status.Good) (Grew old new) × IsAtEnd left'
+AnswersRun run left left' old new status.Fault = PrintsRun run left (EndedAs status.Fault) (Grew old new) × IsAtEnd left'
+AnswersRun run left left' old new status.Spent = PrintsRun run left (EndedAs status.Spent) (Grew old new) × IsAtEnd left'
+AnswersRun run left left' old new status.WriteFault = PrintsRun run left (λ report. ⊤) (GrewPart old new)
+AnswersRun run left left' old new status.Refused = RefusesRun run left
+AnswersRun run left left' old new status.ReadFault = ⊤
+AnswersRun run left left' old new status.OutOfMemory = ⊤
+AnswersRun run left left' old new status.Usage = ⊥
+AnswersRun run left left' old new status.NotInOrder = ⊥
 
 -- ---- the commands asm and dis, which make a text of each input or refuse it
 
@@ -168,7 +157,7 @@ AnswersGen seed size old new status.NotInOrder = ⊥
 -- what a status says, by what the words ask for
 abbrev pub AnswersTask : Option Task → Option (List ℕ) → Option (List ℕ) → Option (List ℕ) → Option (List ℕ) → Status → Type 0
 AnswersTask None left left' old new result = result ≡ status.Usage
-AnswersTask (Some (task.Run config)) left left' old new result = AnswersRun config left left' old new result
+AnswersTask (Some (task.Run run)) left left' old new result = AnswersRun run left left' old new result
 AnswersTask (Some task.Asm) left left' old new result = AnswersText asm_of left left' old new result
 AnswersTask (Some task.Dis) left left' old new result = AnswersText dis_of left left' old new result
 AnswersTask (Some (task.Gen seed size)) left left' old new result = AnswersGen seed size old new result
@@ -176,7 +165,7 @@ AnswersTask (Some (task.Gen seed size)) left left' old new result = AnswersGen s
 -- the words ask for a guest, which reads no input, or for nothing
 abbrev pub ReadsNothing : Option Task → Type 0
 ReadsNothing None = ⊤
-ReadsNothing (Some (task.Run config)) = ⊥
+ReadsNothing (Some (task.Run run)) = ⊥
 ReadsNothing (Some task.Asm) = ⊥
 ReadsNothing (Some task.Dis) = ⊥
 ReadsNothing (Some (task.Gen seed size)) = ⊤

@@ -4,43 +4,29 @@ use Rattle.t1_io.specs.Held.{Grew, GrewPart}
 use Rattle.t1_elf.specs.Saved.{saved}
 use Rattle.t1_event.specs.declared.report.Config.{Config}
 use Rattle.t1_event.specs.declared.report.Report.{Report}
-use Rattle.t1_event.specs.declared.trace.Ending.{Ending}
-use Rattle.t1_event.specs.declared.trace.Ending.TheVariants as ending
 use Rattle.t1_gen.specs.Guests.{generated}
-use Rattle.t1_log.specs.FirstLog.{first_log_of}
 use Rattle.t1_stmt.specs.declared.fault.Fault.{Fault}
+use Rattle.t1_cli.specs.declared.command.Run.{Run}
 use Rattle.t1_cli.specs.declared.command.Task.{Task}
 use Rattle.t1_cli.specs.declared.command.Task.TheVariants as task
-use Rattle.t1_cli.specs.declared.outcome.Outcome.TheVariants.{Refused, Ran}
 use Rattle.t1_cli.specs.declared.refusal.Refusal.{Refusal}
 use Rattle.t1_cli.specs.declared.refusal.Refusal.TheVariants as refusal
 use Rattle.t1_cli.specs.declared.status.Status.{Status}
-use Rattle.t1_cli.specs.declared.status.Status.TheVariants as status
 use Rattle.t1_cli.specs.declared.verdict.Verdict.{Verdict}
 use Rattle.t1_cli.specs.declared.verdict.Verdict.TheVariants as verdict
-use Rattle.t1_cli.specs.Lines.{refusal_line, fault_line}
+use Rattle.t1_cli.specs.Lines.{refusal_line, fault_line, spent_line}
 use Rattle.t1_cli.specs.Made.{asm_of, dis_of}
-use Rattle.t1_cli.specs.Outcome.{most_input, outcome_of, pc_of}
-use Rattle.t1_cli.specs.Printed.{IsReportOfInput}
+use Rattle.t1_cli.specs.Runs.{most_input, refusal_of, IsReportOfInput, printed_of, ended_of}
+use Rattle.t1_cli.specs.Statuses.{status_of_verdict}
 use Rattle.t1_cli.specs.Serial.{WasLeft, TellsLine}
-
-abbrev pub status_of_verdict : Verdict → Status
-status_of_verdict verdict.Good = status.Good
-status_of_verdict verdict.Usage = status.Usage
-status_of_verdict (verdict.Refused why) = status.Refused
-status_of_verdict (verdict.Fault number pc) = status.Fault
-status_of_verdict verdict.Spent = status.Spent
-status_of_verdict verdict.ReadFault = status.ReadFault
-status_of_verdict verdict.WriteFault = status.WriteFault
-status_of_verdict verdict.OutOfMemory = status.OutOfMemory
 
 -- the line on err
 unfoldable pub verdict_line_of : Verdict → List ℕ
 verdict_line_of verdict.Good = []
 verdict_line_of verdict.Usage = codes "t1sim: usage\n"
 verdict_line_of (verdict.Refused why) = refusal_line why
-verdict_line_of (verdict.Fault number pc) = fault_line number pc
-verdict_line_of verdict.Spent = codes "t1sim: strand 0 spent\n"
+verdict_line_of (verdict.Fault strand number pc) = fault_line strand number pc
+verdict_line_of (verdict.Spent strand) = spent_line strand
 verdict_line_of verdict.ReadFault = codes "t1sim: read fault\n"
 verdict_line_of verdict.WriteFault = codes "t1sim: write fault\n"
 verdict_line_of verdict.OutOfMemory = codes "t1sim: out of memory\n"
@@ -62,39 +48,33 @@ IsUnread left _ = ⊥
 
 -- ---- the command run
 
--- the run of an input ended so, and its first log was written
-pub record RanTo (config : Config) (input : List ℕ) (old new : Option (List ℕ)) (ending : Ending) : Type 0 where
+-- a run of the input has a report, of which this holds, and what was written grew by its text in this way
+pub record RanTo (run : Run) (input : List ℕ) (ended : Report → Type 0) (grew : List ℕ → Type 0) : Type 0 where
   pub report : Report
-  pub outcome : outcome_of config input ≡ Ran ending report
-  pub is_report : IsReportOfInput config input ending report
-  pub printed : Grew old new (first_log_of report)
+  pub is_report : IsReportOfInput run input report
+  pub came : ended report
+  pub printed : grew (printed_of run.brief report)
 
--- it ended by a trap of this type, at this PC
-pub record FaultsAt (config : Config) (input : List ℕ) (old new : Option (List ℕ)) (number pc : ℕ) : Type 0 where
-  pub report : Report
-  pub outcome : outcome_of config input ≡ Ran (ending.Fault number) report
-  pub is_report : IsReportOfInput config input (ending.Fault number) report
-  pub printed : Grew old new (first_log_of report)
-  pub at : pc_of report.traces ≡ pc
-
--- it ended, and a front of its first log was written
-pub record RanInPart (config : Config) (input : List ℕ) (old new : Option (List ℕ)) : Type 0 where
-  pub ending : Ending
-  pub report : Report
-  pub outcome : outcome_of config input ≡ Ran ending report
-  pub is_report : IsReportOfInput config input ending report
-  pub printed : GrewPart old new (first_log_of report)
+-- its strands ended so
+abbrev pub EndedIn : Verdict → Report → Type 0
+EndedIn came report = ended_of report.traces ≡ came
 
 -- what a verdict says of the input and of what was written
-abbrev pub Judged : Config → List ℕ → Option (List ℕ) → Option (List ℕ) → Verdict → Type 0
-Judged config input old new verdict.Good = RanTo config input old new ending.Halted
-Judged config input old new verdict.Usage = ⊥
-Judged config input old new (verdict.Refused why) = outcome_of config input ≡ Refused why
-Judged config input old new (verdict.Fault number pc) = FaultsAt config input old new number pc
-Judged config input old new verdict.Spent = RanTo config input old new ending.Spent
-Judged config input old new verdict.ReadFault = ⊤
-Judged config input old new verdict.WriteFault = RanInPart config input old new
-Judged config input old new verdict.OutOfMemory = ⊤
+abbrev pub Judged : Run → List ℕ → Option (List ℕ) → Option (List ℕ) → Verdict → Type 0
+Judged run input old new verdict.Good = RanTo run input (EndedIn verdict.Good) (Grew old new)
+Judged run input old new verdict.Usage = ⊥
+Judged run input old new (verdict.Refused why) = refusal_of run.config input ≡ Some why
+Judged run input old new (verdict.Fault strand number pc) = RanTo run input (EndedIn (verdict.Fault strand number pc)) (Grew old new)
+Judged run input old new (verdict.Spent strand) = RanTo run input (EndedIn (verdict.Spent strand)) (Grew old new)
+Judged run input old new verdict.ReadFault = ⊤
+Judged run input old new verdict.WriteFault = RanTo run input (λ report. ⊤) (GrewPart old new)
+Judged run input old new verdict.OutOfMemory = ⊤
+
+-- a verdict tells why the input is not run, or memory was wanting
+abbrev pub IsRefusal : Config → List ℕ → Verdict → Type 0
+IsRefusal config input (verdict.Refused why) = refusal_of config input ≡ Some why
+IsRefusal config input verdict.OutOfMemory = ⊤
+IsRefusal config input _ = ⊥
 
 -- ---- the commands asm and dis
 
@@ -118,8 +98,8 @@ Made made old new (verdict.Refused why) = made ≡ Err why
 Made made old new verdict.ReadFault = ⊤
 Made made old new verdict.OutOfMemory = ⊤
 Made made old new verdict.Usage = ⊥
-Made made old new (verdict.Fault number pc) = ⊥
-Made made old new verdict.Spent = ⊥
+Made made old new (verdict.Fault strand number pc) = ⊥
+Made made old new (verdict.Spent strand) = ⊥
 
 -- ---- the command gen
 
@@ -130,8 +110,8 @@ Guests seed size old new verdict.WriteFault = GrewPart old new (saved (generated
 Guests seed size old new verdict.OutOfMemory = ⊤
 Guests seed size old new verdict.Usage = ⊥
 Guests seed size old new (verdict.Refused why) = ⊥
-Guests seed size old new (verdict.Fault number pc) = ⊥
-Guests seed size old new verdict.Spent = ⊥
+Guests seed size old new (verdict.Fault strand number pc) = ⊥
+Guests seed size old new (verdict.Spent strand) = ⊥
 Guests seed size old new verdict.ReadFault = ⊥
 
 -- ---- all commands
@@ -139,7 +119,7 @@ Guests seed size old new verdict.ReadFault = ⊥
 -- what a verdict says, by what the words ask for
 abbrev pub ServesTask : Option Task → Option (List ℕ) → Option (List ℕ) → Option (List ℕ) → Verdict → Type 0
 ServesTask None left old new came = came ≡ verdict.Usage
-ServesTask (Some (task.Run config)) left old new came = OfInput left (λ input. Judged config input old new came)
+ServesTask (Some (task.Run run)) left old new came = OfInput left (λ input. Judged run input old new came)
 ServesTask (Some task.Asm) left old new came = OfInput left (λ input. Made (asm_of input) old new came)
 ServesTask (Some task.Dis) left old new came = OfInput left (λ input. Made (dis_of input) old new came)
 ServesTask (Some (task.Gen seed size)) left old new came = Guests seed size old new came

@@ -8,6 +8,8 @@ use Rattle.t1_cli.specs.declared.command.Flag.{Flag}
 use Rattle.t1_cli.specs.declared.command.Flag.TheVariants.{Cores, Strands, Ram, Sets, Budget, Seed, Size, Brief}
 use Rattle.t1_cli.specs.declared.command.Given.{Given}
 use Rattle.t1_cli.specs.declared.command.Reading.{Reading}
+use Rattle.t1_machine.specs.declared.schedule.Schedule.{Schedule}
+use Rattle.t1_machine.specs.declared.schedule.Schedule.TheVariants as schedule
 use Rattle.t1_cli.specs.declared.command.Task.{Task}
 use Rattle.t1_cli.specs.declared.command.Task.TheVariants as task
 
@@ -181,12 +183,15 @@ IsCommand command.Check = ⊤
 
 -- ---- what is served today
 
--- a run of one strand with its whole log, by turns; the assembler and the disassembler; a guest
+-- by turns, or by the generator of a seed
+abbrev pub schedule_of : Option ℕ → Schedule
+schedule_of None = schedule.Turns
+schedule_of (Some seed) = schedule.Seed seed
+
+-- a run of the machine, the assembler and the disassembler, a guest; not yet the checker and the threads
 abbrev pub served : Option Command → Option Task
 served None = None
-served (Some (command.Run config None false)) = if (config.cores == 1) && (config.strands == 1) then Some (task.Run config) else None
-served (Some (command.Run config None true)) = None
-served (Some (command.Run config (Some seed) brief)) = None
+served (Some (command.Run config seed brief)) = Some (task.Run (record { config = config; schedule = schedule_of seed; brief = brief }))
 served (Some (command.Gen seed size)) = Some (task.Gen seed size)
 served (Some (command.Live config)) = None
 served (Some command.Asm) = Some task.Asm
@@ -196,17 +201,9 @@ served (Some command.Check) = None
 abbrev pub task_of : List (List ℕ) → Option Task
 task_of words = served (command_of words)
 
--- what is known of a machine of one strand that the words ask for
-pub record IsOneStrand (config : Config) : Type 0 where
-  pub cores : config.cores ≡ 1
-  pub strands : config.strands ≡ 1
-  pub ram : 65536 ≤ config.ram
-  pub most : config.ram ≤ 268435456
-  pub blocks : config.ram % 65536 ≡ 0
-  pub budget : config.budget ≤ 1000000
-
+-- what is known of a task that the words ask for
 abbrev pub IsTask : Task → Type 0
-IsTask (task.Run config) = IsOneStrand config
+IsTask (task.Run run) = IsTrue (is_in_limits run.config)
 IsTask task.Asm = ⊤
 IsTask task.Dis = ⊤
 IsTask (task.Gen seed size) = (1 ≤ size) × (size ≤ 4000)

@@ -1,6 +1,7 @@
 //! The commands, and what their words ask for.
 
 use t1_event::Config;
+use t1_machine::Schedule;
 
 /// What the words of the command line ask for.
 #[derive(Clone, Copy, Debug, PartialEq, Eq)]
@@ -26,11 +27,20 @@ pub enum Command {
     },
 }
 
-/// What the serial command does today: a run of one strand on one flat memory, the file of an
-/// assembly text, the words of a file, or a guest.
+/// A run that the words ask for: the machine, its schedule, and whether the summary is written in
+/// place of the log.
+#[derive(Clone, Copy, Debug, PartialEq, Eq)]
+pub(crate) struct Run {
+    pub(crate) config: Config,
+    pub(crate) schedule: Schedule,
+    pub(crate) brief: bool,
+}
+
+/// What the serial command does: a run of the machine, the file of an assembly text, the words of a
+/// file, or a guest.
 #[derive(Clone, Copy, Debug, PartialEq, Eq)]
 pub(crate) enum Task {
-    Run { config: Config },
+    Run(Run),
     Asm,
     Dis,
     Gen { seed: u64, size: u32 },

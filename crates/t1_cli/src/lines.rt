@@ -1,6 +1,6 @@
 //! The lines on err.
 ghost use Rattle.std.specs.Prelude.{◌≡◌, ◌≤◌, length};
-ghost use Rattle.t1_cli.specs.Lines.{name_of, fault_name_of, elf_line, asm_line, not_built_line, refusal_line, fault_line};
+ghost use Rattle.t1_cli.specs.Lines.{name_of, fault_name_of, elf_line, asm_line, refusal_line, fault_line, spent_line};
 ghost use Rattle.t1_cli.specs.Verdict.{verdict_line_of};
 
 use crate::refusal::Refusal;
@@ -72,16 +72,6 @@ fn faulty(number: u32, fault: Fault) -> Line<LINE>
     line
 }
 
-fn not_built(pc: u64) -> Line<LINE>
-    ensures { result ≡ not_built_line pc }
-{
-    let mut line = Line::new();
-    line.text("t1sim: not built at ");
-    line.hex(16, pc);
-    line.text("\n");
-    line
-}
-
 fn refused(why: Refusal) -> Line<LINE>
     ensures { result ≡ refusal_line why }
 {
@@ -89,19 +79,30 @@ fn refused(why: Refusal) -> Line<LINE>
         Refusal::TooLong => fixed("t1sim: input too long\n"),
         Refusal::Misformed(error) => misformed(error),
         Refusal::Faulty { line, fault } => faulty(line, fault),
-        Refusal::NotBuilt(pc) => not_built(pc),
     }
 }
 
-fn fault(number: u16, pc: u64) -> Line<LINE>
-    ensures { result ≡ fault_line number pc }
+fn fault(strand: usize, number: u16, pc: u64) -> Line<LINE>
+    ensures { result ≡ fault_line strand number pc }
 {
     let mut line = Line::new();
-    line.text("t1sim: strand 0 fault ");
+    line.text("t1sim: strand ");
+    line.decimal(strand as u64);
+    line.text(" fault ");
     line.hex(3, u64::from(number));
     line.text(" at ");
     line.hex(16, pc);
     line.text("\n");
+    line
+}
+
+fn spent(strand: usize) -> Line<LINE>
+    ensures { result ≡ spent_line strand }
+{
+    let mut line = Line::new();
+    line.text("t1sim: strand ");
+    line.decimal(strand as u64);
+    line.text(" spent\n");
     line
 }
 
@@ -124,8 +125,8 @@ pub(crate) fn verdict_line(verdict: Verdict) -> Line<LINE>
         Verdict::Good => Line::new(),
         Verdict::Usage => fixed("t1sim: usage\n"),
         Verdict::Refused(why) => refused(why),
-        Verdict::Fault { number, pc } => fault(number, pc),
-        Verdict::Spent => fixed("t1sim: strand 0 spent\n"),
+        Verdict::Fault { strand, number, pc } => fault(strand, number, pc),
+        Verdict::Spent { strand } => spent(strand),
         Verdict::ReadFault => fixed("t1sim: read fault\n"),
         Verdict::WriteFault => fixed("t1sim: write fault\n"),
         Verdict::OutOfMemory => fixed("t1sim: out of memory\n"),

@@ -12,6 +12,4 @@ pub enum Refusal {
     Misformed(ElfError),
     /// It is a text whose first line at fault has this number, counted from 1.
     Faulty { line: u32, fault: Fault },
-    /// Its run met a point that is not built, at this PC.
-    NotBuilt(u64),
 }

@@ -1,81 +1,49 @@
-//! From an input to what comes of it.
-ghost use Rattle.std.specs.Prelude.{ℕ, List, ◌≡◌, ◌≢◌, ◌<◌, ◌≤◌, ◌+◌, ◌^◌, length, Ok, Err, IfOk, IfErr};
+//! From an input to the report of its run.
+ghost use Rattle.std.specs.Prelude.{◌≡◌, ◌≢◌, ◌<◌, ◌≤◌, ◌%◌, ◌^◌, length, Ok, Err, IfOk, IfErr, IsTrue};
 ghost use Rattle.t1_num.specs.MemoryLaws.{AreBytes};
 ghost use Rattle.t1_elf.specs.Images.{image_of};
 ghost use Rattle.t1_elf.specs.Parsed.{parsed, KeepsTo};
-ghost use Rattle.t1_cli.specs.Flat.{flat_at};
-ghost use Rattle.t1_cli.specs.Outcome.{outcome_of, run_of, report_of, image_in};
-ghost use Rattle.t1_cli.specs.Printed.{ImageHolds, OutcomeHolds};
-ghost use Rattle.t1_cli.specs.Words.{IsOneStrand};
+ghost use Rattle.t1_event.specs.Printable.{IsPrintableReport};
+ghost use Rattle.t1_machine.specs.Start.{IsRunnable, setup_of};
+ghost use Rattle.t1_cli.specs.Runs.{IsReportOf, IsReportOfInput, setup_in};
+ghost use Rattle.t1_cli.specs.Verdict.{IsRefusal};
+ghost use Rattle.t1_cli.specs.Words.{is_in_limits};
 
-use crate::flat::FlatEnd;
-use crate::order::program_order_of;
-use crate::outcome::Outcome;
+use crate::command::Run;
 use crate::refusal::Refusal;
-use crate::run::{Run, run_flat};
+use crate::verdict::Verdict;
 use std::alloc::{AllocError, Global};
-use t1_elf::{ElfError, Image, Listed, Object, lay, parse};
-use t1_event::{Config, Ending, Report, Trace};
+use t1_chip::Chip;
+use t1_elf::{ElfError, Image, Object, lay, parse};
+use t1_event::{Config, Report};
+use t1_machine::Schedule;
 
 /// The most bytes of an input.
 pub const MOST_INPUT: usize = 67_108_864;
 
-/// The report of a run that has ended.
-fn report(
+/// What is stored in bytes is below 256.
+fn are_bytes(image: &[u8])
+    ensures { AreBytes image.now }
+{
+    let _ = image;
+}
+
+/// The report of the run of an image by a schedule. All its memory is taken before its first step.
+fn run_image(
     alloc: Global,
     config: Config,
+    schedule: Schedule,
     image: Image,
-    run: Run,
-    ending: Ending,
 ) -> Result<Report, AllocError>
-    requires few { length run.items < 2 ^ 32 }
-    ensures { (memory : List ℕ) → (end : FlatEnd) → IfOk result (λ report. report ≡ report_of config image.entry image.ram (flat_at run.strand memory run.items end) ending) }
+    requires runnable { IsRunnable (setup_of config image) }
+    requires entry { image.entry < 2 ^ 40 }
+    ensures report { IfOk result (IsReportOf (setup_of config image) schedule) }
+    ensures text { IfOk result IsPrintableReport }
 {
-    let order = program_order_of(alloc, run.items.as_slice())?;
-    let trace = Trace {
-        items: run.items,
-        units: run.strand.units,
-        pc: run.strand.pc,
-        ending: Some(ending),
-    };
-    let mut traces = Vec::with_capacity(alloc, 1)?;
-    traces.push_reserved(trace);
-    Ok(Report {
-        config,
-        image,
-        traces: Listed::from_vec(traces),
-        log: Listed::new(alloc),
-        order,
-        console: Listed::new(alloc),
-    })
-}
-
-/// A copy of the bytes of an image, for a run to change.
-fn copied(alloc: Global, image: &[u8]) -> Result<Vec<u8>, AllocError>
-    ensures same { IfOk result (λ memory. memory.items ≡ image.now) }
-    ensures bytes { AreBytes image.now }
-{
-    image.to_vec(alloc)
-}
-
-/// Runs strand 0 of 1 from an image.
-#[tactic(auto, unfolding(crate::specs::Outcome::run_of))]
-fn run_image(alloc: Global, config: Config, image: Image) -> Result<Outcome, AllocError>
-    requires strand { IsOneStrand config }
-    requires size { length image.ram ≡ config.ram }
-    requires entry { image.entry + 4 ≤ config.ram }
-    ensures value { IfOk result (λ outcome. outcome ≡ run_of config image.entry image.ram) }
-    ensures holds { IfOk result (λ outcome. ImageHolds config image.entry image.ram outcome) }
-{
-    let mut memory = copied(alloc, image.ram.as_slice())?;
-    let run = run_flat(alloc, &mut memory, image.entry, config.budget)?;
-    match run.end {
-        FlatEnd::Over(ending) => Ok(Outcome::Ran(
-            ending,
-            report(alloc, config, image, run, ending)?,
-        )),
-        FlatEnd::On | FlatEnd::Unbuilt => Ok(Outcome::Refused(Refusal::NotBuilt(run.strand.pc))),
-    }
+    are_bytes(image.ram.as_slice());
+    let mut chip = Chip::build(alloc, &config, image)?;
+    chip.run(schedule);
+    Ok(chip.into_report())
 }
 
 /// The object of a file, whose bytes are let go.
@@ -96,30 +64,36 @@ fn laid_image(alloc: Global, object: Object, ram: u64) -> Result<Image, AllocErr
     lay(alloc, &object, ram)
 }
 
-/// Runs strand 0 of 1 from the image of an object.
-fn run_object(alloc: Global, config: Config, object: Object) -> Result<Outcome, AllocError>
-    requires strand { IsOneStrand config }
+/// The report of the run of an object by a schedule.
+fn run_object(
+    alloc: Global,
+    config: Config,
+    schedule: Schedule,
+    object: Object,
+) -> Result<Report, AllocError>
+    requires limits { IsTrue (is_in_limits config) }
     requires keeps { KeepsTo config.ram object }
-    ensures value { IfOk result (λ outcome. outcome ≡ run_of config object.entry (image_in config object)) }
-    ensures holds { IfOk result (λ outcome. ImageHolds config object.entry (image_in config object) outcome) }
+    ensures report { IfOk result (IsReportOf (setup_in config object) schedule) }
+    ensures text { IfOk result IsPrintableReport }
 {
     let image = laid_image(alloc, object, config.ram)?;
-    run_image(alloc, config, image)
+    run_image(alloc, config, schedule, image)
 }
 
-/// What comes of an input under a machine of one strand.
-#[tactic(auto, unfolding(crate::specs::Outcome::outcome_of))]
-pub fn judge(alloc: Global, config: Config, input: Vec<u8>) -> Result<Outcome, AllocError>
-    requires { IsOneStrand config }
-    ensures value { IfOk result (λ outcome. outcome ≡ outcome_of config input.items) }
-    ensures holds { IfOk result (OutcomeHolds config input.items) }
+/// The report of the run of an input, or the verdict where there is none.
+pub(crate) fn run_input(alloc: Global, run: &Run, input: Vec<u8>) -> Result<Report, Verdict>
+    requires limits { IsTrue (is_in_limits run.now.config) }
+    requires short { length input.items ≤ 67108864 }
+    ensures report { IfOk result (IsReportOfInput run.now input.items) }
+    ensures text { IfOk result IsPrintableReport }
+    ensures refused { IfErr result (IsRefusal run.now.config input.items) }
 {
-    if input.len() > MOST_INPUT {
-        return Ok(Outcome::Refused(Refusal::TooLong));
-    }
-    match read_object(alloc, input, config.ram) {
-        Ok(object) => run_object(alloc, config, object),
-        Err(ElfError::OutOfMemory) => Err(AllocError),
-        Err(error) => Ok(Outcome::Refused(Refusal::Misformed(error))),
+    match read_object(alloc, input, run.config.ram) {
+        Ok(object) => match run_object(alloc, run.config, run.schedule, object) {
+            Ok(report) => Ok(report),
+            Err(_) => Err(Verdict::OutOfMemory),
+        },
+        Err(ElfError::OutOfMemory) => Err(Verdict::OutOfMemory),
+        Err(error) => Err(Verdict::Refused(Refusal::Misformed(error))),
     }
 }

@@ -1,30 +1,33 @@
 //! The serial command: words, an input and two outputs in, a status out.
-ghost use Rattle.std.specs.Prelude.{◌≡◌, ◌≢◌, ◌↔◌, ◌≤◌, length, map, string_bytes, None, IfOk, IfErr, IfSome};
+ghost use Rattle.std.specs.Prelude.{◌≡◌, ◌≢◌, ◌↔◌, ◌≤◌, length, map, string_bytes, None, IfOk, IfErr, IfSome, IsTrue, OnOk, OnErr};
 ghost use Rattle.std.specs.Io.KnownBytes.{IsAtEnd};
-ghost use Rattle.t1_io.specs.Causes.{Rose};
+ghost use Rattle.t1_io.specs.Causes.{HasCause, Rose};
+ghost use Rattle.t1_io.specs.Held.{Grew, GrewPart};
+ghost use Rattle.t1_event.specs.Printable.{IsPrintableReport};
 ghost use Rattle.t1_elf.specs.Saved.{saved};
 ghost use Rattle.t1_gen.specs.Guests.{generated};
 ghost use Rattle.t1_cli.specs.Made.{asm_of, dis_of};
-ghost use Rattle.t1_cli.specs.Outcome.{pc_of};
+ghost use Rattle.t1_cli.specs.Runs.{printed_of};
+ghost use Rattle.t1_cli.specs.Statuses.{status_of_verdict};
 ghost use Rattle.t1_cli.specs.Serial.{WasLeft, HasText, HasNoText, AnswersTask, ReadsNothing, TellsLine};
-ghost use Rattle.t1_cli.specs.Verdict.{status_of_verdict, OfInput, IsUnread, Judged, Made, Guests, ServesTask, Tells};
-ghost use Rattle.t1_cli.specs.Words.{task_of, IsOneStrand, IsTask};
+ghost use Rattle.t1_cli.specs.Verdict.{OfInput, IsUnread, Judged, Made, Guests, ServesTask, Tells};
+ghost use Rattle.t1_cli.specs.Words.{task_of, is_in_limits, IsTask};
 
-use crate::command::Task;
+use crate::command::{Run, Task};
+use crate::ended::ended;
 use crate::lines::verdict_line;
-use crate::outcome::Outcome;
 use crate::refusal::Refusal;
-use crate::report::{MOST_INPUT, judge};
+use crate::report::{MOST_INPUT, run_input};
 use crate::status::Status;
 use crate::texts::{write_file, write_words};
 use crate::verdict::Verdict;
 use crate::words::read_task;
 use std::alloc::{AllocError, Global};
 use t1_elf::save;
-use t1_event::{Config, Ending, Report};
+use t1_event::Report;
 use t1_gen::generate;
-use t1_io::{ReadError, Sink, Source, read_all, write_all};
-use t1_log::print_first;
+use t1_io::{Failed, ReadError, Sink, Source, read_all, write_all};
+use t1_log::{print, print_brief};
 
 impl Verdict {
     /// The status that a verdict has.
@@ -35,8 +38,12 @@ impl Verdict {
             Verdict::Good => Status::Good,
             Verdict::Usage => Status::Usage,
             Verdict::Refused(_) => Status::Refused,
-            Verdict::Fault { number: _, pc: _ } => Status::Fault,
-            Verdict::Spent => Status::Spent,
+            Verdict::Fault {
+                strand: _,
+                number: _,
+                pc: _,
+            } => Status::Fault,
+            Verdict::Spent { strand: _ } => Status::Spent,
             Verdict::ReadFault => Status::ReadFault,
             Verdict::WriteFault => Status::WriteFault,
             Verdict::OutOfMemory => Status::OutOfMemory,
@@ -60,52 +67,49 @@ fn read_input<S: Source>(alloc: Global, input: &mut S) -> Result<Vec<u8>, Verdic
     }
 }
 
-/// The PC of the first strand.
-fn first_pc(report: &Report) -> u64
-    ensures { result ≡ pc_of report.now.traces }
+/// Writes the log of a report, or its summary.
+fn print_report<K: Sink>(report: &Report, brief: bool, out: &mut K) -> Result<(), Failed>
+    requires { IsPrintableReport report.now }
+    ensures cause { HasCause (K.faults out.old) (K.faults out.new) result }
+    ensures all { OnOk result (Grew (K.held out.old) (K.held out.new) (printed_of brief report.now)) }
+    ensures part { OnErr result (GrewPart (K.held out.old) (K.held out.new) (printed_of brief report.now)) }
 {
-    match report.traces.as_slice().first() {
-        Some(trace) => trace.pc,
-        None => 0,
+    if brief {
+        print_brief(report, out)
+    } else {
+        print(report, out)
     }
 }
 
-/// Writes the log of the run of an input.
-fn write_run<K: Sink>(alloc: Global, config: Config, input: Vec<u8>, out: &mut K) -> Verdict
-    requires { IsOneStrand config }
-    ensures judged { Judged config input.items (K.held out.old) (K.held out.new) result }
+/// Writes what comes of the run of an input. No memory is taken after the first step of the run.
+fn write_run<K: Sink>(alloc: Global, run: &Run, input: Vec<u8>, out: &mut K) -> Verdict
+    requires limits { IsTrue (is_in_limits run.now.config) }
+    requires short { length input.items ≤ 67108864 }
+    ensures judged { Judged run.now input.items (K.held out.old) (K.held out.new) result }
     ensures unchanged { HasNoText (status_of_verdict result) → out.new ≡ out.old }
     ensures fault { result ≡ Verdict.WriteFault → Rose (K.faults out.old) (K.faults out.new) }
     ensures never { result ≢ Verdict.ReadFault }
 {
-    match judge(alloc, config, input) {
-        Err(_) => Verdict::OutOfMemory,
-        Ok(Outcome::Refused(why)) => Verdict::Refused(why),
-        Ok(Outcome::Ran(ending, report)) => {
-            if print_first(&report, out).is_err() {
+    match run_input(alloc, run, input) {
+        Ok(report) => {
+            if print_report(&report, run.brief, out).is_err() {
                 return Verdict::WriteFault;
             }
-            match ending {
-                Ending::Halted => Verdict::Good,
-                Ending::Spent => Verdict::Spent,
-                Ending::Fault(number) => Verdict::Fault {
-                    number,
-                    pc: first_pc(&report),
-                },
-            }
+            ended(report.traces.as_slice())
         }
+        Err(verdict) => verdict,
     }
 }
 
-/// Reads an ELF file, runs it and writes its log.
+/// Reads an ELF file, runs it and writes its log or summary.
 fn serve_run<S: Source, K: Sink>(
     alloc: Global,
-    config: Config,
+    run: &Run,
     input: &mut S,
     out: &mut K,
 ) -> Verdict
-    requires { IsOneStrand config }
-    ensures serves { OfInput (S.left input.old) (λ bytes. Judged config bytes (K.held out.old) (K.held out.new) result) }
+    requires { IsTrue (is_in_limits run.now.config) }
+    ensures serves { OfInput (S.left input.old) (λ bytes. Judged run.now bytes (K.held out.old) (K.held out.new) result) }
     ensures usage { result ≢ Verdict.Usage }
     ensures unchanged { HasNoText (status_of_verdict result) → out.new ≡ out.old }
     ensures read_fault { result ≡ Verdict.ReadFault → Rose (S.faults input.old) (S.faults input.new) }
@@ -113,7 +117,7 @@ fn serve_run<S: Source, K: Sink>(
     ensures end { HasText (status_of_verdict result) → IsAtEnd (S.left input.new) }
 {
     match read_input(alloc, input) {
-        Ok(bytes) => write_run(alloc, config, bytes, out),
+        Ok(bytes) => write_run(alloc, run, bytes, out),
         Err(verdict) => verdict,
     }
 }
@@ -193,7 +197,7 @@ fn serve<S: Source, K: Sink>(
 {
     match asked {
         None => Verdict::Usage,
-        Some(Task::Run { config }) => serve_run(alloc, config, input, out),
+        Some(Task::Run(run)) => serve_run(alloc, &run, input, out),
         Some(Task::Asm) => serve_asm(alloc, input, out),
         Some(Task::Dis) => serve_dis(alloc, input, out),
         Some(Task::Gen { seed, size }) => serve_gen(alloc, seed, size, out),
@@ -210,11 +214,11 @@ fn tell<E: Sink>(err: &mut E, line: &[u8])
 /// Serves a command: reads its input, writes its text to `out`, and one line to `err` where the
 /// status is not good.
 ///
-/// The command `run` takes an ELF file and writes the first log of the run of one strand on one
-/// flat memory; `asm` takes an assembly text and writes its ELF file; `dis` takes an ELF file and
-/// writes a line for each of its words; `gen` reads nothing and writes the ELF file of a guest. Until
-/// there are the machine of cores and banks, the checker and the threads, all other words are
-/// answered as those that are not in the form.
+/// The command `run` takes an ELF file and writes the log of its run on the machine of the words, or
+/// with `--brief` its summary; `asm` takes an assembly text and writes its ELF file; `dis` takes an ELF
+/// file and writes a line for each of its words; `gen` reads nothing and writes the ELF file of a guest.
+/// Until there are the checker and the threads, all other words are answered as those that are not in
+/// the form.
 pub fn t1_serial<S: Source, K: Sink, E: Sink>(
     alloc: Global,
     words: &[String],

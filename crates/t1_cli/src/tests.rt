@@ -1,9 +1,9 @@
 //! The serial command over devices in memory.
 
 mod devices;
-mod engine;
 mod guests;
 mod linked;
+mod machines;
 mod texts;
 mod values;
 mod words;
@@ -12,21 +12,11 @@ use crate::serial::t1_serial;
 use std::alloc::{AllocError, Global};
 use t1_io::{MemSink, MemSource};
 
-/// `mov 2, %g1`; `add %g1, 3, %g1`; `stx %g1, [%g0+0x200]`; `ldx [%g0+0x200], %g2`; halt.
-const SUM: &[u32] = &[0x82102002, 0x82006003, 0xc2702200, 0xc4582200, 0xb5802000];
+/// `mov 5, %g1`; `stx %g1, [%g0+0x200]`; `ldx [%g0+0x200], %g2`; halt.
+const STORE_AND_LOAD: &[u32] = &[0x82102005, 0xc2702200, 0xc4582200, 0xb5802000];
 
 /// A run of one strand on a small RAM, for at most 10 units.
-const RUN: &[&str] = &[
-    "run",
-    "--cores",
-    "1",
-    "--strands",
-    "1",
-    "--ram",
-    "65536",
-    "--budget",
-    "10",
-];
+const RUN: &str = "run --cores 1 --strands 1 --ram 65536 --budget 10";
 
 /// An ELF file of one segment that holds these words at an address.
 fn file_of(alloc: Global, words: &[u32], at: u64, entry: u64) -> Result<Vec<u8>, AllocError> {
@@ -47,13 +37,13 @@ fn file_of(alloc: Global, words: &[u32], at: u64, entry: u64) -> Result<Vec<u8>,
     Ok(file)
 }
 
-/// Words of a command line.
-fn strings(alloc: Global, words: &[&str]) -> Result<Vec<String>, AllocError> {
-    let mut list = Vec::new(alloc);
-    for word in words {
-        list.push(String::from_str(alloc, word)?)?;
+/// The words of a command line.
+fn words_of(alloc: Global, line: &str) -> Result<Vec<String>, AllocError> {
+    let mut words = Vec::new(alloc);
+    for word in line.split_whitespace() {
+        words.push(String::from_str(alloc, word)?)?;
     }
-    Ok(list)
+    Ok(words)
 }
 
 /// What came of a command.
@@ -80,13 +70,13 @@ const CALM: Plan = Plan {
     piece: 4096,
 };
 
-fn serve(alloc: Global, words: &[&str], file: Vec<u8>, plan: Plan) -> Result<Came, AllocError> {
-    let list = strings(alloc, words)?;
+fn serve(alloc: Global, line: &str, file: Vec<u8>, plan: Plan) -> Result<Came, AllocError> {
+    let list = words_of(alloc, line)?;
     let piece = plan.piece.max(1);
     let mut input = MemSource::new(file, 16, Vec::from_slice(alloc, &[plan.read])?);
     let mut out = MemSink::new(
         alloc,
-        262_144,
+        1 << 24,
         piece,
         Vec::from_slice(alloc, &[plan.write])?,
     )?;
@@ -103,4 +93,12 @@ fn serve(alloc: Global, words: &[&str], file: Vec<u8>, plan: Plan) -> Result<Cam
 fn has_line(text: &[u8], line: &str) -> bool {
     text.split(|byte| *byte == b'\n')
         .any(|found| found == line.as_bytes())
+}
+
+/// Whether what is told on err is this line, or nothing where there is none.
+fn is_told(came: &Came, line: &str) -> bool {
+    match came.err.as_slice().strip_prefix(b"t1sim: ") {
+        Some(rest) => rest.strip_suffix(b"\n") == Some(line.as_bytes()),
+        None => line.is_empty() && came.err.is_empty(),
+    }
 }

@@ -5,7 +5,8 @@ ghost use Rattle.t1_asm.specs.Passes.{IsFault};
 ghost use Rattle.t1_stmt.specs.declared.fault.Fault.{Fault as FaultRecord};
 ghost use Rattle.t1_cli.specs.Made.{asm_of, dis_of, file_or_fault};
 ghost use Rattle.t1_cli.specs.Serial.{HasNoText};
-ghost use Rattle.t1_cli.specs.Verdict.{status_of_verdict, FaultTold, Made};
+ghost use Rattle.t1_cli.specs.Statuses.{status_of_verdict};
+ghost use Rattle.t1_cli.specs.Verdict.{FaultTold, Made};
 
 use crate::refusal::Refusal;
 use crate::report::read_object;

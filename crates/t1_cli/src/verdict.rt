@@ -9,9 +9,16 @@ pub enum Verdict {
     Usage,
     /// The input is refused.
     Refused(Refusal),
-    /// The strand ended by a trap of this type at trap level 6.
-    Fault { number: u16, pc: u64 },
-    Spent,
+    /// The first strand that ended by a trap at trap level 6, with the trap's type and its PC.
+    Fault {
+        strand: usize,
+        number: u16,
+        pc: u64,
+    },
+    /// No strand ended so, and this is the first whose budget is spent.
+    Spent {
+        strand: usize,
+    },
     ReadFault,
     WriteFault,
     OutOfMemory,

@@ -1,10 +1,11 @@
 //! The reader of the words.
 ghost use Rattle.std.specs.Prelude.{◌≡◌, ◌≤◌, ◌*◌, ◌%◌, ◌==◌, ◌&&◌, nat_le, map, string_bytes, IfSome, IsTrue};
-ghost use Rattle.t1_cli.specs.Words.{digits_from, number_of, flag_of, once, with_number, complete, begun, numbered, read_next, ended, options_of, is_set_count, is_in_limits, config_in_limits, config_of, has_no_machine, is_bare, run_command, live_command, bare_command, guest_command, command_named, command_of, task_of, IsCommand, IsTask};
+ghost use Rattle.t1_cli.specs.Words.{digits_from, number_of, flag_of, once, with_number, complete, begun, numbered, read_next, ended, options_of, is_set_count, is_in_limits, config_in_limits, config_of, has_no_machine, is_bare, run_command, live_command, bare_command, guest_command, command_named, command_of, schedule_of, task_of, IsCommand, IsTask};
 
-use crate::command::{Command, Flag, Given, Reading, Task};
+use crate::command::{Command, Flag, Given, Reading, Run, Task};
 use t1_event::Config;
 use t1_gen::MOST_SIZE;
+use t1_machine::Schedule;
 
 /// The value of digits, where each is one and the value has 64 bits.
 #[tactic(auto, unfolding(crate::specs::Words::digits_from))]
@@ -369,6 +370,16 @@ pub fn read_words(words: &[String]) -> Option<Command>
     }
 }
 
+/// By turns, or by the generator of a seed.
+fn schedule_of(seed: Option<u64>) -> Schedule
+    ensures { result ≡ schedule_of seed }
+{
+    match seed {
+        Some(seed) => Schedule::Seed(seed),
+        None => Schedule::Turns,
+    }
+}
+
 /// What is served of a command today.
 pub(crate) fn read_task(words: &[String]) -> Option<Task>
     ensures value { result ≡ task_of (map string_bytes words.now) }
@@ -377,12 +388,16 @@ pub(crate) fn read_task(words: &[String]) -> Option<Task>
     match read_words(words)? {
         Command::Run {
             config,
-            seed: None,
-            brief: false,
-        } if config.cores == 1 && config.strands == 1 => Some(Task::Run { config }),
+            seed,
+            brief,
+        } => Some(Task::Run(Run {
+            config,
+            schedule: schedule_of(seed),
+            brief,
+        })),
         Command::Asm => Some(Task::Asm),
         Command::Dis => Some(Task::Dis),
         Command::Gen { seed, size } => Some(Task::Gen { seed, size }),
-        _ => None,
+        Command::Live { config: _ } | Command::Check => None,
     }
 }

@@ -3,9 +3,8 @@ use Rattle.std.specs.Prelude.{ℕ, ◌+◌, List, [], ◌∷◌, ◌++◌, lengt
 use Rattle.t1_event.specs.declared.commit.Commit.{Commit}
 use Rattle.t1_event.specs.declared.report.Report.{Report}
 use Rattle.t1_event.specs.declared.trace.Trace.{Trace}
-use Rattle.t1_log.specs.Lines.{config_line_of, end_line}
+use Rattle.t1_log.specs.Lines.{config_line_of, last_line_of, end_line}
 use Rattle.t1_log.specs.Texts.{lines_from}
-use Rattle.t1_log.specs.FirstLog.{last_line_of}
 use Rattle.t1_log.specs.Log.{console_lines_of}
 
 abbrev pub brief_version_line : List ℕ

@@ -1,5 +1,5 @@
 -- The lines of a log. Each ends with its line feed.
-use Rattle.std.specs.Prelude.{ℕ, ◌*◌, List, ◌++◌, codes, decimal, if◌then◌else◌}
+use Rattle.std.specs.Prelude.{ℕ, ◌*◌, List, [], ◌++◌, codes, decimal, if◌then◌else◌, Some, None}
 use Rattle.t1_event.specs.declared.item.Item.{Item}
 use Rattle.t1_event.specs.declared.item.ItemKind.{ItemKind}
 use Rattle.t1_event.specs.declared.item.ItemKind.TheVariants.{Fetch, Load, Store, Atomic, Membar, Flush}
@@ -7,6 +7,7 @@ use Rattle.t1_event.specs.declared.report.Config.{Config}
 use Rattle.t1_event.specs.declared.report.Place.{Place}
 use Rattle.t1_event.specs.declared.trace.Ending.{Ending}
 use Rattle.t1_event.specs.declared.trace.Ending.TheVariants.{Halted, Fault, Spent}
+use Rattle.t1_event.specs.declared.trace.Trace.{Trace}
 use Rattle.t1_event.specs.Kinds.{is_read, is_changing}
 use Rattle.t1_log.specs.Hex.{hex_of, hex_of_bytes}
 
@@ -60,6 +61,10 @@ ending_fields_of (Fault number) units pc =
 -- the end of a strand
 unfoldable pub ending_line_of : ℕ → Ending → ℕ → ℕ → List ℕ
 ending_line_of strand ending units pc = codes "e " ++ (decimal strand ++ (codes " " ++ (ending_fields_of ending units pc ++ codes "\n")))
+
+-- the line of its end, where it has ended
+abbrev pub last_line_of : ℕ → Trace → List ℕ
+last_line_of strand trace = elim trace.ending [ None ↦ [] | Some ending ↦ ending_line_of strand ending trace.units trace.pc ]
 
 -- a place of the memory order
 unfoldable pub place_line_of : Place → List ℕ

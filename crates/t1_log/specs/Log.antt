@@ -11,9 +11,8 @@ use Rattle.t1_event.specs.declared.commit.Commit.{Commit}
 use Rattle.t1_event.specs.declared.report.Report.{Report}
 use Rattle.t1_event.specs.declared.trace.Trace.{Trace}
 use Rattle.t1_log.specs.Hex.{hex_of, hex_of_bytes}
-use Rattle.t1_log.specs.Lines.{item_fields_of, end_line}
+use Rattle.t1_log.specs.Lines.{item_fields_of, last_line_of, end_line}
 use Rattle.t1_log.specs.Texts.{lines_from, blocks_from, head_lines_of, order_lines_of}
-use Rattle.t1_log.specs.FirstLog.{last_line_of}
 
 abbrev pub version_line : List ℕ
 version_line = codes "t1log 1\n"

@@ -13,14 +13,13 @@ ghost use Rattle.t1_io.specs.Causes.{HasCause};
 ghost use Rattle.t1_io.specs.Held.{Grew, GrewPart};
 ghost use Rattle.t1_event.specs.Printable.{IsPrintableTrace, IsPrintableCommit, IsPrintableReport};
 ghost use Rattle.t1_log.specs.Brief.{units_of, items_in, kills_in, evicted_in, totals_line_of, totals_of, brief_of};
-ghost use Rattle.t1_log.specs.FirstLog.{last_line_of};
+ghost use Rattle.t1_log.specs.Lines.{last_line_of};
 ghost use Rattle.t1_log.specs.Texts.{lines_from};
 
 use crate::console::print_console;
-use crate::first_log::print_ending;
 use crate::line::Line;
 use crate::lines::{ROOM, config_line, fixed_line};
-use crate::texts::write_line;
+use crate::texts::{print_ending, write_line};
 use t1_event::{Commit, Report, Trace};
 use t1_io::{Failed, Sink};
 

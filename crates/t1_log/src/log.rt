@@ -26,10 +26,9 @@ ghost use Rattle.t1_log.specs.Texts.{lines_from};
 
 use crate::commits::commit_line;
 use crate::console::print_console;
-use crate::first_log::print_ending;
 use crate::line::Line;
 use crate::lines::{ROOM, fixed_line, put_item};
-use crate::texts::{print_head, print_order, write_line};
+use crate::texts::{print_ending, print_head, print_order, write_line};
 use t1_event::{Commit, How, Item, Report, Trace};
 use t1_io::{Failed, Sink};
 

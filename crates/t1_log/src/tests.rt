@@ -1,9 +1,8 @@
 //! A report with every kind of item and of ending, and its text.
 ghost use Rattle.std.specs.Prelude.{◌≡◌, ◌+◌, ◌*◌, ◌≤◌, IsTrue, All};
-ghost use Rattle.t1_event.specs.Printable.{HasText, IsPrintableTrace as IsWholeTrace, IsPrintableCommit, IsPrintableReport};
-ghost use Rattle.t1_log.specs.Printable.{FitsDigits, IsPrintableItem, IsPrintableTrace, IsPrintable};
+ghost use Rattle.t1_event.specs.Printable.{FitsDigits, HasText, IsPrintableTrace, IsPrintableCommit, IsPrintableReport};
 
-use crate::{print, print_brief, print_first};
+use crate::{print, print_brief};
 use std::alloc::{AllocError, Global};
 use std::test::Fail;
 use t1_elf::{Image, Listed};
@@ -172,53 +171,6 @@ fn fits(size: u8, value: u64) -> bool
     }
 }
 
-fn is_printable_item(item: &Item) -> bool
-    ensures { IsTrue result → IsPrintableItem item.now }
-{
-    match item.kind {
-        ItemKind::Membar | ItemKind::Flush => true,
-        _ => item.addr < 1 << 40 && fits(item.size, item.got) && fits(item.size, item.put),
-    }
-}
-
-fn are_printable_items(items: &[Item]) -> bool
-    ensures { IsTrue result → All IsPrintableItem items.now }
-{
-    items.iter().all(|item| is_printable_item(item))
-}
-
-fn is_printable_trace(trace: &Trace) -> bool
-    ensures { IsTrue result → IsPrintableTrace trace.now }
-{
-    let ended = match trace.ending {
-        Some(Ending::Halted) => true,
-        Some(Ending::Spent) => true,
-        Some(Ending::Fault(number)) => number < 1 << 12,
-        None => false,
-    };
-    ended && are_printable_items(trace.items.as_slice())
-}
-
-fn are_printable_traces(traces: &[Trace]) -> bool
-    ensures { IsTrue result → All IsPrintableTrace traces.now }
-{
-    traces.iter().all(|trace| is_printable_trace(trace))
-}
-
-fn is_printable(report: &Report) -> bool
-    ensures { IsTrue result → IsPrintable report.now }
-{
-    let bytes = report.image.ram.as_slice().len();
-    let traces = report.traces.as_slice();
-    let strands = u16::from(report.config.cores) * u16::from(report.config.strands);
-    report.image.entry < 1 << 40
-        && bytes % 32 == 0
-        && bytes <= 1 << 40
-        && are_printable_traces(traces)
-        && traces.len() == usize::from(strands)
-        && traces.len() <= 256
-}
-
 fn has_text(item: &Item) -> bool
     ensures { IsTrue result → HasText item.now }
 {
@@ -238,8 +190,8 @@ fn have_text(items: &[Item]) -> bool
     items.iter().all(|item| has_text(item))
 }
 
-fn is_whole_trace(trace: &Trace) -> bool
-    ensures { IsTrue result → IsWholeTrace trace.now }
+fn is_printable_trace(trace: &Trace) -> bool
+    ensures { IsTrue result → IsPrintableTrace trace.now }
 {
     let items = trace.items.as_slice();
     let ended = match trace.ending {
@@ -251,13 +203,13 @@ fn is_whole_trace(trace: &Trace) -> bool
     ended && items.len() <= 1 << 32 && have_text(items)
 }
 
-fn are_whole_traces(traces: &[Trace]) -> bool
-    ensures { IsTrue result → All IsWholeTrace traces.now }
+fn are_printable_traces(traces: &[Trace]) -> bool
+    ensures { IsTrue result → All IsPrintableTrace traces.now }
 {
-    traces.iter().all(|trace| is_whole_trace(trace))
+    traces.iter().all(|trace| is_printable_trace(trace))
 }
 
-fn is_whole_commit(commit: &Commit) -> bool
+fn is_printable_commit(commit: &Commit) -> bool
     ensures { IsTrue result → IsPrintableCommit commit.now }
 {
     let small = match commit.evicted {
@@ -267,13 +219,13 @@ fn is_whole_commit(commit: &Commit) -> bool
     small && commit.kills.len() <= 64
 }
 
-fn are_whole_commits(log: &[Commit]) -> bool
+fn are_printable_commits(log: &[Commit]) -> bool
     ensures { IsTrue result → All IsPrintableCommit log.now }
 {
-    log.iter().all(|commit| is_whole_commit(commit))
+    log.iter().all(|commit| is_printable_commit(commit))
 }
 
-fn is_whole(report: &Report) -> bool
+fn is_printable(report: &Report) -> bool
     ensures { IsTrue result → IsPrintableReport report.now }
 {
     let bytes = report.image.ram.as_slice().len();
@@ -283,36 +235,14 @@ fn is_whole(report: &Report) -> bool
     report.image.entry < 1 << 40
         && bytes % 32 == 0
         && bytes <= 1 << 40
-        && are_whole_traces(traces)
+        && are_printable_traces(traces)
         && traces.len() == usize::from(strands)
         && traces.len() <= 256
-        && are_whole_commits(log)
+        && are_printable_commits(log)
         && log.len() <= 1 << 32
 }
 
-const TEXT: &str = "t1log 0
-config cores 1 strands 3 ram 128 sets 1024 budget 10
-entry 0000000020
-m 0000000020 82af000000000000000000000000000000000000000000000000000000000000
-m 0000000060 0000000000000000000000000000000000000000000000000000000000000001
-i 0 0 fetch 0000000020 4 82af0000 -
-i 0 1 load 000000007f 1 01 -
-i 0 2 store 80000000c0 2 - beef
-i 0 3 atomic 0000000040 8 0000000000000000 0123456789abcdef
-i 0 4 atomic 0000000044 4 89abcdef -
-i 0 5 membar 0f
-i 0 6 flush
-e 0 halted 12 0000000000000034
-e 1 fault 0 fffffffffffffffc 034
-i 2 0 fetch 0000000020 4 82af0000 -
-e 2 spent 10 0000000000000024
-o 2 0
-o 0 0
-o 0 4
-end
-";
-
-const WHOLE: &str = "t1log 1
+const TEXT: &str = "t1log 1
 config cores 1 strands 3 ram 128 sets 1024 budget 10
 entry 0000000020
 m 0000000020 82af000000000000000000000000000000000000000000000000000000000000
@@ -354,12 +284,8 @@ fn every_kind_of_line_is_printed(rt: HostRuntime) -> Result<(), Fail> {
     let report = report(rt.alloc())?;
     assert!(rt; is_printable(&report));
     let mut sink = CalmSink::new(rt.alloc(), 4096)?;
-    print_first(&report, &mut sink)?;
-    assert_eq!(rt; sink.as_slice(), TEXT.as_bytes());
-    assert!(rt; is_whole(&report));
-    let mut sink = CalmSink::new(rt.alloc(), 4096)?;
     print(&report, &mut sink)?;
-    assert_eq!(rt; sink.as_slice(), WHOLE.as_bytes());
+    assert_eq!(rt; sink.as_slice(), TEXT.as_bytes());
     let mut sink = CalmSink::new(rt.alloc(), 4096)?;
     print_brief(&report, &mut sink)?;
     assert_eq!(rt; sink.as_slice(), BRIEF.as_bytes());

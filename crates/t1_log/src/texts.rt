@@ -2,12 +2,13 @@
 ghost use Rattle.std.specs.Prelude.{◌≡◌, ◌+◌, ◌*◌, ◌≤◌, ◌<◌, ◌/◌, length, take, drop, OnOk, OnErr};
 ghost use Rattle.t1_io.specs.Causes.{HasCause};
 ghost use Rattle.t1_io.specs.Held.{Grew, GrewPart};
+ghost use Rattle.t1_log.specs.Lines.{last_line_of};
 ghost use Rattle.t1_log.specs.Texts.{is_blank, block_lines_of, image_lines_of, head_lines_of, order_lines_of};
 
 use crate::line::Line;
-use crate::lines::{ROOM, block_line, config_line, entry_line, place_line};
+use crate::lines::{ROOM, block_line, config_line, ending_line, entry_line, place_line};
 use t1_elf::Image;
-use t1_event::{Config, Place};
+use t1_event::{Config, Place, Trace};
 use t1_io::{Failed, Sink, write_all};
 
 /// Writes a line, by one call of `write_all`.
@@ -92,4 +93,20 @@ pub(crate) fn print_order<K: Sink>(order: &[Place], sink: &mut K) -> Result<(), 
         write_line(sink, place_line(*place))?;
     }
     Ok(())
+}
+
+/// Prints the line of a strand's end, where it has ended.
+pub(crate) fn print_ending<K: Sink>(
+    strand: usize,
+    trace: &Trace,
+    sink: &mut K,
+) -> Result<(), Failed>
+    ensures cause { HasCause (K.faults sink.old) (K.faults sink.new) result }
+    ensures all { OnOk result (Grew (K.held sink.old) (K.held sink.new) (last_line_of strand trace.now)) }
+    ensures part { OnErr result (GrewPart (K.held sink.old) (K.held sink.new) (last_line_of strand trace.now)) }
+{
+    match trace.ending {
+        Some(ending) => write_line(sink, ending_line(strand, ending, trace.units, trace.pc)),
+        None => Ok(()),
+    }
 }

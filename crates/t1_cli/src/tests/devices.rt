@@ -1,39 +1,40 @@
 //! Devices that fail, and inputs that are too long.
 
-use super::{CALM, Plan, RUN, SUM, file_of, serve, strings};
+use super::{CALM, Plan, RUN, STORE_AND_LOAD, file_of, serve, words_of};
 use crate::report::MOST_INPUT;
 use crate::serial::t1_serial;
 use std::test::Fail;
 use t1_io::{Failed, MemSink, Source};
 
-const SUM_LOG: &str = "t1log 0
+/// The log of its run.
+const LOG: &str = "t1log 1
 config cores 1 strands 1 ram 65536 sets 1024 budget 10
 entry 0000000100
-m 0000000100 8210200282006003c2702200c4582200b5802000000000000000000000000000
-i 0 0 fetch 0000000100 4 82102002 -
-i 0 1 fetch 0000000104 4 82006003 -
-i 0 2 fetch 0000000108 4 c2702200 -
-i 0 3 store 0000000200 8 - 0000000000000005
-i 0 4 fetch 000000010c 4 c4582200 -
-i 0 5 load 0000000200 8 0000000000000005 -
-i 0 6 fetch 0000000110 4 b5802000 -
-e 0 halted 5 0000000000000114
+m 0000000100 82102005c2702200c4582200b580200000000000000000000000000000000000
+i 0 0 fetch 0000000100 4 82102005 - M 0 0
+i 0 1 fetch 0000000104 4 c2702200 - H 1
+i 0 2 store 0000000200 8 - 0000000000000005 M 1 1
+i 0 3 fetch 0000000108 4 c4582200 - H 1
+i 0 4 load 0000000200 8 0000000000000005 - M 2 2
+i 0 5 fetch 000000010c 4 b5802000 - H 3
+e 0 halted 4 0000000000000110
+c 0 0 0 0 0 -
+c 1 0 0 2 - -
+c 2 0 0 4 0 -
 o 0 0
 o 0 1
-o 0 2
 o 0 3
+o 0 2
 o 0 4
 o 0 5
-o 0 6
 end
 ";
 
 /// The lines of its words.
-const SUM_WORDS: &str = "0000000100 82102002 or %g0, 2, %g1
-0000000104 82006003 add %g1, 3, %g1
-0000000108 c2702200 stx %g1, [%g0+512]
-000000010c c4582200 ldx [%g0+512], %g2
-0000000110 b5802000 wr %g0, 0, %asr26
+const WORDS: &str = "0000000100 82102005 or %g0, 5, %g1
+0000000104 c2702200 stx %g1, [%g0+512]
+0000000108 c4582200 ldx [%g0+512], %g2
+000000010c b5802000 wr %g0, 0, %asr26
 ";
 
 /// So many first lines of a text.
@@ -52,18 +53,18 @@ fn first_lines(text: &[u8], lines: u32) -> &[u8] {
 
 #[test]
 fn each_call_of_a_device_may_fail(rt: HostRuntime) -> Result<(), Fail> {
-    let text = SUM_LOG.as_bytes();
-    // The source, of 140 bytes in pieces of 16, is called nine times, and once more at its end.
+    let text = LOG.as_bytes();
+    // The source, of 136 bytes in pieces of 16, is called nine times, and once more at its end.
     for call in 1..=10 {
-        let file = file_of(rt.alloc(), SUM, 0x100, 0x100)?;
+        let file = file_of(rt.alloc(), STORE_AND_LOAD, 0x100, 0x100)?;
         let came = serve(rt.alloc(), RUN, file, Plan { read: call, ..CALM })?;
         assert_eq!(rt; came.status, 5, "read {call}");
         assert_eq!(rt; came.err.as_slice(), b"t1sim: read fault\n".as_slice());
         assert_eq!(rt; came.out.len(), 0);
     }
-    // Each of the twenty lines is one call.
-    for call in 1..=20u32 {
-        let file = file_of(rt.alloc(), SUM, 0x100, 0x100)?;
+    // Each of the 21 lines is one call.
+    for call in 1..=21u32 {
+        let file = file_of(rt.alloc(), STORE_AND_LOAD, 0x100, 0x100)?;
         let came = serve(
             rt.alloc(),
             RUN,
@@ -81,7 +82,7 @@ fn each_call_of_a_device_may_fail(rt: HostRuntime) -> Result<(), Fail> {
             "write {call}"
         );
     }
-    let file = file_of(rt.alloc(), SUM, 0x100, 0x100)?;
+    let file = file_of(rt.alloc(), STORE_AND_LOAD, 0x100, 0x100)?;
     let came = serve(
         rt.alloc(),
         RUN,
@@ -95,14 +96,14 @@ fn each_call_of_a_device_may_fail(rt: HostRuntime) -> Result<(), Fail> {
     assert_eq!(rt; came.status, 6);
     assert_eq!(rt; came.out.as_slice(), text.split_at(29.min(text.len())).0);
     // A failure of err changes no status, and all calls may go well.
-    let table: [(&[&str], u8); 2] = [(RUN, 0), (&["frob"], 1)];
+    let table = [(RUN, 0), ("frob", 1)];
     for (words, status) in table {
-        let file = file_of(rt.alloc(), SUM, 0x100, 0x100)?;
+        let file = file_of(rt.alloc(), STORE_AND_LOAD, 0x100, 0x100)?;
         let came = serve(rt.alloc(), words, file, Plan { tell: 1, ..CALM })?;
         assert_eq!(rt; came.status, status);
         assert_eq!(rt; came.err.len(), 0);
     }
-    let file = file_of(rt.alloc(), SUM, 0x100, 0x100)?;
+    let file = file_of(rt.alloc(), STORE_AND_LOAD, 0x100, 0x100)?;
     let came = serve(rt.alloc(), RUN, file, Plan { piece: 1, ..CALM })?;
     assert_eq!(rt; came.status, 0);
     assert_eq!(rt; came.out.as_slice(), text);
@@ -136,16 +137,16 @@ impl Source for Repeated {
 #[test]
 fn an_input_has_at_most_64_mebibytes(rt: HostRuntime) -> Result<(), Fail> {
     // The words, the bytes of an input of spaces, the status, and the line on err.
-    let table: [(&[&str], usize, u8, &str); 6] = [
+    let table = [
         (RUN, MOST_INPUT, 2, "t1sim: elf NotElf\n"),
         (RUN, MOST_INPUT + 1, 2, "t1sim: input too long\n"),
-        (&["asm"], MOST_INPUT, 0, ""),
-        (&["asm"], MOST_INPUT + 1, 2, "t1sim: input too long\n"),
-        (&["dis"], MOST_INPUT, 2, "t1sim: elf NotElf\n"),
-        (&["dis"], MOST_INPUT + 1, 2, "t1sim: input too long\n"),
+        ("asm", MOST_INPUT, 0, ""),
+        ("asm", MOST_INPUT + 1, 2, "t1sim: input too long\n"),
+        ("dis", MOST_INPUT, 2, "t1sim: elf NotElf\n"),
+        ("dis", MOST_INPUT + 1, 2, "t1sim: input too long\n"),
     ];
     for (words, left, status, told) in table {
-        let list = strings(rt.alloc(), words)?;
+        let list = words_of(rt.alloc(), words)?;
         let mut input = Repeated { byte: b' ', left };
         let mut out = MemSink::new(rt.alloc(), 64, 64, Vec::new(rt.alloc()))?;
         let mut err = MemSink::new(rt.alloc(), 64, 64, Vec::new(rt.alloc()))?;
@@ -159,19 +160,19 @@ fn an_input_has_at_most_64_mebibytes(rt: HostRuntime) -> Result<(), Fail> {
 #[test]
 fn devices_of_texts_may_fail(rt: HostRuntime) -> Result<(), Fail> {
     // The words, the read and the write that fails, the status, and how many lines are written.
-    let file = file_of(rt.alloc(), SUM, 0x100, 0x100)?;
-    for write in 1..=5u32 {
+    let file = file_of(rt.alloc(), STORE_AND_LOAD, 0x100, 0x100)?;
+    for write in 1..=4u32 {
         let plan = Plan { write, ..CALM };
-        let came = serve(rt.alloc(), &["dis"], file.clone()?, plan)?;
+        let came = serve(rt.alloc(), "dis", file.clone()?, plan)?;
         assert_eq!(rt; came.status, 6);
         assert_eq!(rt;
             came.out.as_slice(),
-            first_lines(SUM_WORDS.as_bytes(), write - 1)
+            first_lines(WORDS.as_bytes(), write - 1)
         );
     }
     for words in ["asm", "dis"] {
         let plan = Plan { read: 2, ..CALM };
-        let came = serve(rt.alloc(), &[words], file.clone()?, plan)?;
+        let came = serve(rt.alloc(), words, file.clone()?, plan)?;
         assert_eq!(rt; came.status, 5);
         assert_eq!(rt; came.out.len(), 0);
     }
@@ -181,7 +182,7 @@ fn devices_of_texts_may_fail(rt: HostRuntime) -> Result<(), Fail> {
         piece: 20,
         ..CALM
     };
-    let came = serve(rt.alloc(), &["asm"], text, plan)?;
+    let came = serve(rt.alloc(), "asm", text, plan)?;
     assert_eq!(rt; came.status, 6);
     assert_eq!(rt; came.out.len(), 40);
     Ok(())

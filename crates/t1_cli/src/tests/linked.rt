@@ -67,19 +67,18 @@ fn file(alloc: Global) -> Result<Vec<u8>, Fail> {
 
 #[test]
 fn a_file_of_the_linker_is_run_and_shown(rt: HostRuntime) -> Result<(), Fail> {
-    let words = ["run", "--cores", "1", "--strands", "1"];
-    let came = serve(rt.alloc(), &words, file(rt.alloc())?, CALM)?;
+    let came = serve(rt.alloc(), "run --cores 1 --strands 1", file(rt.alloc())?, CALM)?;
     assert_eq!(rt; came.status, 0);
     for line in [
         "entry 0000100000",
         "m 0000102000 0000000000000002000000000000000000000000000000000000000000000000",
-        "i 0 3 load 0000102000 8 0000000000000002 -",
-        "i 0 6 store 0000102000 8 - 0000000000000005",
+        "i 0 3 load 0000102000 8 0000000000000002 - M 1 1",
+        "i 0 6 store 0000102000 8 - 0000000000000005 M 2 2",
         "e 0 halted 6 0000000000100018",
     ] {
         assert!(rt; has_line(came.out.as_slice(), line), "{line}");
     }
-    let came = serve(rt.alloc(), &["dis"], file(rt.alloc())?, CALM)?;
+    let came = serve(rt.alloc(), "dis", file(rt.alloc())?, CALM)?;
     assert_eq!(rt; came.status, 0);
     for line in [
         "0000100000 21000408 sethi 1032, %l0",

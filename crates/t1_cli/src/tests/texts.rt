@@ -13,10 +13,10 @@ fn bytes_of(alloc: Global, text: &str) -> Result<Vec<u8>, AllocError> {
 #[test]
 fn a_text_becomes_a_file_and_its_words(rt: HostRuntime) -> Result<(), Fail> {
     let text = bytes_of(rt.alloc(), " .org 0x100\n wr %g0, 0, %asr26")?;
-    let came = serve(rt.alloc(), &["asm"], text, CALM)?;
+    let came = serve(rt.alloc(), "asm", text, CALM)?;
     assert_eq!(rt; came.status, 0);
     assert_eq!(rt; came.out, file_of(rt.alloc(), &[0xb5802000], 0x100, 0x100)?);
-    let came = serve(rt.alloc(), &["dis"], came.out, CALM)?;
+    let came = serve(rt.alloc(), "dis", came.out, CALM)?;
     assert_eq!(rt; came.status, 0);
     assert_eq!(rt;
         came.out.as_slice(),
@@ -40,7 +40,7 @@ fn the_first_fault_of_a_text_is_told(rt: HostRuntime) -> Result<(), Fail> {
         (".skip 16777217", "t1sim: asm line 1: TooLong\n"),
     ];
     for (text, told) in table {
-        let came = serve(rt.alloc(), &["asm"], bytes_of(rt.alloc(), text)?, CALM)?;
+        let came = serve(rt.alloc(), "asm", bytes_of(rt.alloc(), text)?, CALM)?;
         assert_eq!(rt; came.err.as_slice(), told.as_bytes(), "{text}");
         assert_eq!(rt; came.status, if told.is_empty() { 0 } else { 2 }, "{text}");
         assert_eq!(rt; came.out.is_empty(), !told.is_empty(), "{text}");
@@ -50,7 +50,7 @@ fn the_first_fault_of_a_text_is_told(rt: HostRuntime) -> Result<(), Fail> {
 
 #[test]
 fn an_empty_text_is_a_file_without_a_segment(rt: HostRuntime) -> Result<(), Fail> {
-    let came = serve(rt.alloc(), &["asm"], Vec::new(rt.alloc()), CALM)?;
+    let came = serve(rt.alloc(), "asm", Vec::new(rt.alloc()), CALM)?;
     assert_eq!(rt; came.status, 0);
     let mut file = file_of(rt.alloc(), &[], 0, 0)?;
     file.truncate(64);
@@ -58,7 +58,7 @@ fn an_empty_text_is_a_file_without_a_segment(rt: HostRuntime) -> Result<(), Fail
         *count = 0;
     }
     assert_eq!(rt; came.out, file);
-    let came = serve(rt.alloc(), &["dis"], came.out, CALM)?;
+    let came = serve(rt.alloc(), "dis", came.out, CALM)?;
     assert_eq!(rt; came.status, 2);
     assert_eq!(rt; came.err.as_slice(), b"t1sim: elf NoSegment\n".as_slice());
     Ok(())
@@ -74,7 +74,7 @@ fn words_below_the_end_of_memory_are_shown(rt: HostRuntime) -> Result<(), Fail> 
     ];
     for (at, shown, told) in table {
         let file = file_of(rt.alloc(), &[0x01000000], at, 0x100)?;
-        let came = serve(rt.alloc(), &["dis"], file, CALM)?;
+        let came = serve(rt.alloc(), "dis", file, CALM)?;
         assert_eq!(rt; came.err.as_slice(), told.as_bytes());
         assert_eq!(rt; came.out.as_slice(), shown.as_bytes());
     }
@@ -85,8 +85,8 @@ fn words_below_the_end_of_memory_are_shown(rt: HostRuntime) -> Result<(), Fail> 
 fn whole_words_at_multiples_of_four_are_shown(rt: HostRuntime) -> Result<(), Fail> {
     let text =
         ".org 0x101\n.byte 0, 1, 2\n.half 0x8143, 0xe002\n.byte 3, 4, 5\n.org 0x40\n_start: .skip 8\n";
-    let came = serve(rt.alloc(), &["asm"], bytes_of(rt.alloc(), text)?, CALM)?;
-    let came = serve(rt.alloc(), &["dis"], came.out, CALM)?;
+    let came = serve(rt.alloc(), "asm", bytes_of(rt.alloc(), text)?, CALM)?;
+    let came = serve(rt.alloc(), "dis", came.out, CALM)?;
     let shown =
         "0000000104 8143e002 membar 2\n0000000040 00000000 .word 0x00000000\n0000000044 00000000 .word 0x00000000\n";
     assert_eq!(rt; came.out.as_slice(), shown.as_bytes());
@@ -105,7 +105,7 @@ fn lines_are_these_words(rt: HostRuntime) -> Result<(), Fail> {
         }
     }
     assert_eq!(rt; words.len(), 7);
-    let came = serve(rt.alloc(), &["asm"], text, CALM)?;
+    let came = serve(rt.alloc(), "asm", text, CALM)?;
     assert_eq!(rt;
         came.out,
         file_of(rt.alloc(), words.as_slice(), 0x100, 0x100)?
@@ -146,7 +146,7 @@ fn shown_words_are_assembled_to_themselves(rt: HostRuntime) -> Result<(), Fail> 
     let words = all_words(rt.alloc())?;
     assert_eq!(rt; words.len(), 412);
     let file = file_of(rt.alloc(), words.as_slice(), 0x100, 0x100)?;
-    let came = serve(rt.alloc(), &["dis"], file.clone()?, CALM)?;
+    let came = serve(rt.alloc(), "dis", file.clone()?, CALM)?;
     assert_eq!(rt; came.status, 0);
     for line in [
         "0000000100 aa00000b add %g0, %o3, %l5",
@@ -155,7 +155,7 @@ fn shown_words_are_assembled_to_themselves(rt: HostRuntime) -> Result<(), Fail> 
         assert!(rt; has_line(came.out.as_slice(), line), "{line}");
     }
     let text = statements(rt.alloc(), str::from_utf8(came.out.as_slice())?)?;
-    let came = serve(rt.alloc(), &["asm"], text, CALM)?;
+    let came = serve(rt.alloc(), "asm", text, CALM)?;
     assert_eq!(rt; came.status, 0);
     assert_eq!(rt; came.out, file);
     Ok(())

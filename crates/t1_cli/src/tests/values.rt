@@ -7,17 +7,7 @@ use std::test::Fail;
 use t1_vectors::{operations, windows};
 
 /// A run of one strand on a small RAM, for at most 100 units.
-const RUN: &[&str] = &[
-    "run",
-    "--cores",
-    "1",
-    "--strands",
-    "1",
-    "--ram",
-    "65536",
-    "--budget",
-    "100",
-];
+const RUN: &str = "run --cores 1 --strands 1 --ram 65536 --budget 100";
 
 /// What every guest begins with: handlers of traps 023, 028, 080 and 0c0, which store the trap type and
 /// CWP and halt, and the address of the code.
@@ -37,12 +27,15 @@ fn guest(alloc: Global) -> Result<String, Fail> {
 /// The values of eight bytes that a guest stores, in their order: it is assembled and run.
 fn stored(alloc: Global, guest: &str) -> Result<Vec<u64>, Fail> {
     let text = Vec::from_slice(alloc, guest.as_bytes())?;
-    let file = serve(alloc, &["asm"], text, CALM)?.out;
+    let file = serve(alloc, "asm", text, CALM)?.out;
     let log = serve(alloc, RUN, file, CALM)?.out;
     let mut values = Vec::new(alloc);
     for line in str::from_utf8(log.as_slice())?.lines() {
-        if let Some((_, value)) = line.split_once(" 8 - ") {
-            values.push(u64::from_str_radix(value, 16)?)?;
+        if line.starts_with("i ") {
+            if let Some((_, rest)) = line.split_once(" 8 - ") {
+                let value = rest.split(" ").next().unwrap_or("");
+                values.push(u64::from_str_radix(value, 16)?)?;
+            }
         }
     }
     Ok(values)

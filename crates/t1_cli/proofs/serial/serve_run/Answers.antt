@@ -8,7 +8,7 @@ returns-in-Err g c =
     let held = g.K.Sink.held c.args.out.now in
     let none = not_read left c.in-Err.verdict c.in-Err.ensures.unread in
     record {
-      serves = unread_run c.args.config left held held c.in-Err.verdict c.in-Err.ensures.unread;
+      serves = unread_run c.args.run.now left held held c.in-Err.verdict c.in-Err.ensures.unread;
       usage = none.usage;
       unchanged = λ _. refl;
       read_fault = c.in-Err.ensures.fault;

@@ -2,7 +2,7 @@ use Rattle.std.proofs.Common.{◌∙◌, refl, subst, arith}
 use Rattle.t1_event.specs.declared.trace.Trace.{Trace}
 use Rattle.t1_io.specs.Held.{Grew, GrewPart}
 use Rattle.t1_io.proofs.Growth.{Grew-nil}
-use Rattle.t1_log.specs.FirstLog.{last_line_of}
+use Rattle.t1_log.specs.Lines.{last_line_of}
 use Rattle.t1_log.specs.Texts.{lines_from}
 use Rattle.t1_log.proofs.Printing.{Grew-more, GrewPart-more, on_err}
 use Rattle.t1_log.proofs.brief.print_endings.Goals as goal

@@ -1,6 +1,6 @@
 use Rattle.std.proofs.Common.{◌≡◌, take}
 use Rattle.t1_io.specs.Held.{Grew}
-use Rattle.t1_log.specs.FirstLog.{last_line_of}
+use Rattle.t1_log.specs.Lines.{last_line_of}
 use Rattle.t1_log.specs.Texts.{lines_from}
 use Rattle.t1_log.proofs.brief.print_endings.Given as goal
 

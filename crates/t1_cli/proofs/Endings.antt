@@ -1,0 +1,138 @@
+-- How strands ended, one after another, and what a verdict of it says.
+use Rattle.std.proofs.Common.{◌≡◌, ◌∙◌, ℕ, suc, ◌+◌, ◌<◌, false, List, [], ◌∷◌, length, drop, get_or, Option, Some, None, Result, Ok, Err, refl, ap, sym, subst, arith}
+use Rattle.std.specs.Prelude.{OnOk, IfSome, is_err, unwrap_or}
+use Rattle.std.proofs.Math.Seq.{drop-cons}
+use Rattle.t1_io.specs.Held.{Grew}
+use Rattle.t1_event.specs.declared.report.Report.{Report}
+use Rattle.t1_event.specs.declared.trace.Trace.{Trace}
+use Rattle.t1_event.specs.declared.trace.Ending.{Ending}
+use Rattle.t1_event.specs.declared.trace.Ending.TheVariants as ending
+use Rattle.t1_cli.specs.declared.command.Run.{Run}
+use Rattle.t1_cli.specs.declared.verdict.Verdict.{Verdict}
+use Rattle.t1_cli.specs.declared.verdict.Verdict.TheVariants as verdict
+use Rattle.t1_cli.specs.Runs.{IsReportOfInput, printed_of, fault_of, spent_of, first_of, fault_from, spent_from, ended_of}
+use Rattle.t1_cli.specs.Serial.{HasNoText}
+use Rattle.t1_cli.specs.Statuses.{status_of_verdict}
+use Rattle.t1_cli.specs.Verdict.{RanTo, EndedIn, Judged}
+
+-- ---- one trace more
+
+traces_next : (traces : List Trace) (strand : ℕ) (trace : Trace) → strand < length traces → trace ≡ get_or traces strand trace
+    → drop strand traces ≡ trace ∷ drop (strand + 1) traces
+traces_next traces strand trace less is =
+    let next : suc strand ≡ strand + 1 = omega arith in
+    drop-cons traces strand trace less ∙ ap (λ t. t ∷ drop (suc strand) traces) (sym is) ∙ ap (λ k. trace ∷ drop k traces) next
+
+-- a strand of which nothing is told
+pub fault_next : (traces : List Trace) (strand : ℕ) (trace : Trace) → strand < length traces → trace ≡ get_or traces strand trace
+    → None ≡ fault_of strand trace.pc trace.ending → fault_from (strand + 1) (drop (strand + 1) traces) ≡ fault_from strand (drop strand traces)
+unfolding fault_from
+fault_next traces strand trace less is none =
+    let next : strand + 1 ≡ suc strand = omega arith in
+    ap (λ k. fault_from k (drop (strand + 1) traces)) next ∙ ap (λ o. first_of o (fault_from (suc strand) (drop (strand + 1) traces))) none
+    ∙ ap (fault_from strand) (sym (traces_next traces strand trace less is))
+
+pub spent_next : (traces : List Trace) (strand : ℕ) (trace : Trace) → strand < length traces → trace ≡ get_or traces strand trace
+    → None ≡ spent_of strand trace.ending → spent_from (strand + 1) (drop (strand + 1) traces) ≡ spent_from strand (drop strand traces)
+unfolding spent_from
+spent_next traces strand trace less is none =
+    let next : strand + 1 ≡ suc strand = omega arith in
+    ap (λ k. spent_from k (drop (strand + 1) traces)) next ∙ ap (λ o. first_of o (spent_from (suc strand) (drop (strand + 1) traces))) none
+    ∙ ap (spent_from strand) (sym (traces_next traces strand trace less is))
+
+-- ---- verdicts on how strands ended
+
+abbrev IsEnd : Verdict → Type 0
+IsEnd verdict.Good = Unit {0}
+IsEnd (verdict.Fault strand number pc) = Unit {0}
+IsEnd (verdict.Spent strand) = Unit {0}
+IsEnd _ = ⊥
+
+abbrev IsEndIfAny : Option Verdict → Type 0
+IsEndIfAny None = Unit {0}
+IsEndIfAny (Some v) = IsEnd v
+
+first_ends : (found later : Option Verdict) → IsEndIfAny found → IsEndIfAny later → IsEndIfAny (first_of found later)
+first_ends (Some v) later is rest = is
+first_ends None later is rest = rest
+
+fault_ends : (strand pc : ℕ) (e : Option Ending) → IsEndIfAny (fault_of strand pc e)
+fault_ends strand pc (Some (ending.Fault number)) = tt
+fault_ends strand pc (Some ending.Halted) = tt
+fault_ends strand pc (Some ending.Spent) = tt
+fault_ends strand pc None = tt
+
+faults_end : (strand : ℕ) (traces : List Trace) → IsEndIfAny (fault_from strand traces)
+unfolding fault_from
+faults_end strand [] = tt
+faults_end strand (trace ∷ traces) =
+    first_ends (fault_of strand trace.pc trace.ending) (fault_from (suc strand) traces) (fault_ends strand trace.pc trace.ending) (faults_end (suc strand) traces)
+
+spent_ends : (strand : ℕ) (e : Option Ending) → IsEndIfAny (spent_of strand e)
+spent_ends strand (Some ending.Spent) = tt
+spent_ends strand (Some ending.Halted) = tt
+spent_ends strand (Some (ending.Fault number)) = tt
+spent_ends strand None = tt
+
+spents_end : (strand : ℕ) (traces : List Trace) → IsEndIfAny (spent_from strand traces)
+unfolding spent_from
+spents_end strand [] = tt
+spents_end strand (trace ∷ traces) =
+    first_ends (spent_of strand trace.ending) (spent_from (suc strand) traces) (spent_ends strand trace.ending) (spents_end (suc strand) traces)
+
+one_ends : (found : Option Verdict) (other : Verdict) → IsEndIfAny found → IsEnd other → IsEnd (unwrap_or found other)
+one_ends None other found end = end
+one_ends (Some v) other found end = found
+
+is_end : (traces : List Trace) → IsEnd (ended_of traces)
+unfolding ended_of
+is_end traces =
+    one_ends (fault_from 0 traces) (unwrap_or (spent_from 0 traces) verdict.Good) (faults_end 0 traces)
+    (one_ends (spent_from 0 traces) verdict.Good (spents_end 0 traces) tt)
+
+end_judged : (run : Run) (input : List ℕ) (old new : Option (List ℕ)) (v : Verdict) → IsEnd v → RanTo run input (EndedIn v) (Grew old new) → Judged run input old new v
+end_judged run input old new verdict.Good end ran = ran
+end_judged run input old new (verdict.Fault strand number pc) end ran = ran
+end_judged run input old new (verdict.Spent strand) end ran = ran
+end_judged run input old new verdict.Usage end ran = absurd end
+end_judged run input old new (verdict.Refused why) end ran = absurd end
+end_judged run input old new verdict.ReadFault end ran = absurd end
+end_judged run input old new verdict.WriteFault end ran = absurd end
+end_judged run input old new verdict.OutOfMemory end ran = absurd end
+
+end_has_text : (v : Verdict) → IsEnd v → HasNoText (status_of_verdict v) → ⊥
+end_has_text verdict.Good end none = none
+end_has_text (verdict.Fault strand number pc) end none = none
+end_has_text (verdict.Spent strand) end none = none
+end_has_text verdict.Usage end none = end
+end_has_text (verdict.Refused why) end none = end
+end_has_text verdict.ReadFault end none = end
+end_has_text verdict.WriteFault end none = end
+end_has_text verdict.OutOfMemory end none = end
+
+-- a verdict on how the strands of a report ended, whose text was written
+pub record Ended (run : Run) (input : List ℕ) (old new : Option (List ℕ)) (v : Verdict) : Type 0 where
+  pub judged : Judged run input old new v
+  pub text : HasNoText (status_of_verdict v) → ⊥
+  pub no_write_fault : v ≡ verdict.WriteFault → ⊥
+  pub no_read_fault : v ≡ verdict.ReadFault → ⊥
+
+-- what was written where the write went well
+went_well : {T E : Type 0} (r : Result T E) (P : Type 0) → false ≡ is_err r → OnOk r P → P
+went_well (Ok v) P went ok = ok
+went_well (Err e) P went ok = let no : ⊥ = cc in absurd no
+
+-- the text of a report was written, and the verdict is how its strands ended
+pub ended_so : {T E : Type 0} (run : Run) (input : List ℕ) (old new : Option (List ℕ)) (report : Report) (wrote : Result T E) (v : Verdict)
+    → IsReportOfInput run input report → false ≡ is_err wrote → OnOk wrote (Grew old new (printed_of run.brief report)) → v ≡ ended_of report.traces
+    → Ended run input old new v
+ended_so run input old new report wrote v is_report went ok is =
+    let end : IsEnd v = subst (λ (w : Verdict). IsEnd w) (sym is) (is_end report.traces) in
+    let P : Verdict → Type 0 = λ w. IsEnd w in
+    let grew : Grew old new (printed_of run.brief report) = went_well wrote (Grew old new (printed_of run.brief report)) went ok in
+    record {
+      judged = end_judged run input old new v end (record { report = report; is_report = is_report; came = sym is; printed = grew });
+      text = end_has_text v end;
+      no_write_fault = λ bad. subst P bad end;
+      no_read_fault = λ bad. subst P bad end;
+    }

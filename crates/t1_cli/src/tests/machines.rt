@@ -1,0 +1,246 @@
+//! Runs of guests that the assembler makes, on one strand and on several.
+
+use super::{CALM, Came, serve};
+use std::alloc::Global;
+use std::fmt::Write;
+use std::test::Fail;
+
+/// Assembles a guest, and runs it.
+fn run(alloc: Global, line: &str, guest: &str) -> Result<Came, Fail> {
+    let text = Vec::from_slice(alloc, guest.as_bytes())?;
+    let file = serve(alloc, "asm", text, CALM)?.out;
+    Ok(serve(alloc, line, file, CALM)?)
+}
+
+/// The last value that was got at an address by accesses of a kind, of one strand.
+fn last_got(log: &[u8], strand: u32, kind: &str, addr: &str) -> Result<Option<u64>, Fail> {
+    let mut last = None;
+    for line in str::from_utf8(log)?.lines() {
+        let mut fields = line.split(" ");
+        let is_item = fields.next() == Some("i");
+        let of: u32 = fields.next().unwrap_or("").parse().unwrap_or(u32::MAX);
+        let is_its = is_item && of == strand && fields.nth(1) == Some(kind);
+        if is_its && fields.next() == Some(addr) {
+            last = Some(u64::from_str_radix(fields.nth(1).unwrap_or(""), 16)?);
+        }
+    }
+    Ok(last)
+}
+
+/// Runs a guest by turns and by seeds 0 to 9.
+fn by_each_schedule(alloc: Global, line: &str, guest: &str) -> Result<Vec<Came>, Fail> {
+    let mut runs = Vec::new(alloc);
+    runs.push(run(alloc, line, guest)?)?;
+    for seed in 0..10 {
+        let mut seeded = String::from_str(alloc, line)?;
+        write!(seeded, " --seed {seed}")?;
+        runs.push(run(alloc, seeded.as_str(), guest)?)?;
+    }
+    Ok(runs)
+}
+
+/// Calls ten deep, each in its own window with its own local, and back; then 77 to 800 hex. The handler
+/// at 1000 spills the window at its stack pointer and does `saved` and `retry`, that at 1800 fills it and
+/// does `restored` and `retry`.
+const TEN_WINDOWS: &str = "\
+        .org 0x100
+_start:
+        .word 0x1d000024, 0x82102000, 0x9de3bf40, 0x82006001, 0xa0100001, 0x80a0600a
+        .word 0x12bffffc, 0x01000000, 0x80a40001, 0x12800009, 0x01000000, 0x81e80000
+        .word 0x82a06001, 0x12bffffb, 0x01000000, 0x8810204d, 0xc8702800, 0xb5802000
+        .word 0xb5802000
+        .org 0x1000
+        .word 0xe073a000, 0xe273a008, 0xe473a010, 0xe673a018, 0xe873a020, 0xea73a028
+        .word 0xec73a030, 0xee73a038, 0xf073a040, 0xf273a048, 0xf473a050, 0xf673a058
+        .word 0xf873a060, 0xfa73a068, 0xfc73a070, 0xfe73a078, 0x81880000, 0x83f00000
+        .org 0x1800
+        .word 0xe05ba000, 0xe25ba008, 0xe45ba010, 0xe65ba018, 0xe85ba020, 0xea5ba028
+        .word 0xec5ba030, 0xee5ba038, 0xf05ba040, 0xf25ba048, 0xf45ba050, 0xf65ba058
+        .word 0xf85ba060, 0xfa5ba068, 0xfc5ba070, 0xfe5ba078, 0x83880000, 0x83f00000
+";
+
+/// Enables interrupts, asks for that of level 4 by SET_SOFTINT, and then stores 77 to 800 hex. Its handler
+/// clears the interrupt, stores 5 to 808 hex and does `retry`.
+const INTERRUPT: &str = "\
+        .org 0x100
+_start:
+        .word 0x8d902006, 0xa9802010, 0x8810204d, 0xc8702800, 0xb5802000
+        .org 0x880
+        .word 0xab802010, 0x82102005, 0xc2702808, 0x83f00000
+";
+
+#[test]
+fn windows_and_interrupts_come_back(rt: HostRuntime) -> Result<(), Fail> {
+    let line = "run --cores 1 --strands 1 --ram 65536 --budget 1000";
+    for guest in [TEN_WINDOWS, INTERRUPT] {
+        let came = run(rt.alloc(), line, guest)?;
+        assert_eq!(rt; came.status, 0);
+        let log = str::from_utf8(came.out.as_slice())?;
+        assert!(rt; log.contains(" store 0000000800 8 - 000000000000004d M "));
+        assert_eq!(rt; log.contains(" store 0000000808 8 - 0000000000000005 M "), guest == INTERRUPT);
+    }
+    Ok(())
+}
+
+/// Strand s stores 1 to 800 hex + 400 hex * s and loads the other's line.
+const STORE_THEN_LOAD: &str = "\
+        .org 0x100
+        sllx %o0, 10, %g1
+        xor %g1, 0x400, %g2
+        mov 1, %g3
+        stx %g3, [%g1 + 0x800]
+        membar #StoreLoad
+        ldx [%g2 + 0x800], %g4
+        wr %g0, 0, %asr26
+";
+
+#[test]
+fn one_of_two_loads_sees_a_store_behind_a_membar(rt: HostRuntime) -> Result<(), Fail> {
+    let line = "run --cores 2 --strands 1 --ram 65536 --budget 20";
+    for came in by_each_schedule(rt.alloc(), line, STORE_THEN_LOAD)?.as_slice() {
+        assert_eq!(rt; came.status, 0);
+        let first = last_got(came.out.as_slice(), 0, "load", "0000000c00")?;
+        let second = last_got(came.out.as_slice(), 1, "load", "0000000800")?;
+        assert!(rt; first == Some(1) || second == Some(1));
+    }
+    Ok(())
+}
+
+/// Strand 0 stores 1 to 8040 and then to 8080 hex. Strand 1 loads 8040, loads 8080 until it is not 0, and
+/// loads 8040.
+const MESSAGE: &str = "\
+        .org 0x100
+        sethi %hi(0x8000), %g1
+        cmp %o0, 0
+        bne reader
+        mov 1, %g2
+        stx %g2, [%g1 + 0x40]
+        stx %g2, [%g1 + 0x80]
+        wr %g0, 0, %asr26
+reader: ldx [%g1 + 0x40], %g3
+again:  ldx [%g1 + 0x80], %g4
+        cmp %g4, 0
+        be %xcc, again
+        nop
+        ldx [%g1 + 0x40], %g5
+        wr %g0, 0, %asr26
+";
+
+#[test]
+fn a_message_is_seen_after_its_flag(rt: HostRuntime) -> Result<(), Fail> {
+    let line = "run --cores 2 --strands 1 --ram 65536";
+    for came in by_each_schedule(rt.alloc(), line, MESSAGE)?.as_slice() {
+        assert_eq!(rt; came.status, 0);
+        assert_eq!(rt; last_got(came.out.as_slice(), 1, "load", "0000008040")?, Some(1));
+    }
+    Ok(())
+}
+
+/// Strand 0 stores 1 to 8040 hex and strand 1 to 8080. Strand 2 loads 8040 and then 8080, strand 3 loads
+/// 8080 and then 8040.
+const TWO_READERS: &str = "\
+        .org 0x100
+        sethi %hi(0x8000), %g1
+        mov 1, %g2
+        sub %o0, 2, %g3
+        brlz %g3, writer
+        sll %o0, 6, %g4
+        sll %g3, 6, %g5
+        add %g1, %g5, %g6
+        ldx [%g6 + 0x40], %g7
+        xor %g5, 0x40, %g5
+        add %g1, %g5, %g6
+        ldx [%g6 + 0x40], %g7
+        wr %g0, 0, %asr26
+writer: add %g1, %g4, %g6
+        stx %g2, [%g6 + 0x40]
+        wr %g0, 0, %asr26
+";
+
+#[test]
+fn two_readers_see_two_stores_in_one_order(rt: HostRuntime) -> Result<(), Fail> {
+    let line = "run --cores 4 --strands 1 --ram 65536";
+    for came in by_each_schedule(rt.alloc(), line, TWO_READERS)?.as_slice() {
+        assert_eq!(rt; came.status, 0);
+        let log = came.out.as_slice();
+        let third = last_got(log, 2, "load", "0000008040")? == Some(1)
+            && last_got(log, 2, "load", "0000008080")? == Some(0);
+        let fourth = last_got(log, 3, "load", "0000008080")? == Some(1)
+            && last_got(log, 3, "load", "0000008040")? == Some(0);
+        assert!(rt; !third || !fourth);
+    }
+    Ok(())
+}
+
+/// Strand 0 stores a halt over the branch at 400 hex, and then 1 to 8080 hex. Strand 1 loads 8080 until it
+/// is not 0, does a flush and jumps to 400.
+const WRITTEN_CODE: &str = "\
+        .org 0x100
+_start: sethi %hi(0x8000), %g1
+        cmp %o0, 0
+        bne reader
+        mov 1, %g2
+        sethi %hi(0xb5802000), %g3
+        stw %g3, [0x400]
+        stx %g2, [%g1 + 0x80]
+        wr %g0, 0, %asr26
+reader: ldx [%g1 + 0x80], %g4
+        cmp %g4, 0
+        be %xcc, reader
+        nop
+        flush %g0 + 0x400
+        jmp %g0 + 0x400
+        nop
+        .org 0x400
+        ba .
+";
+
+#[test]
+fn code_that_was_written_is_fetched_after_a_flush(rt: HostRuntime) -> Result<(), Fail> {
+    let line = "run --cores 2 --strands 1 --ram 65536";
+    for came in by_each_schedule(rt.alloc(), line, WRITTEN_CODE)?.as_slice() {
+        assert_eq!(rt; came.status, 0);
+        assert_eq!(rt; last_got(came.out.as_slice(), 1, "fetch", "0000000400")?, Some(0xb580_2000));
+    }
+    Ok(())
+}
+
+/// Each strand adds 1 to 8000 hex, ten times, by compare and swap.
+const COUNTER: &str = "\
+        .org 0x100
+_start: sethi %hi(0x8000), %l0
+        mov 10, %l1
+again:  ldx [%l0], %g1
+        add %g1, 1, %g2
+        casx [%l0], %g1, %g2
+        cmp %g1, %g2
+        bne %xcc, again
+        nop
+        subcc %l1, 1, %l1
+        bne %xcc, again
+        nop
+        wr %g0, 0, %asr26
+";
+
+#[test]
+fn counts_of_32_strands_come_to_320(rt: HostRuntime) -> Result<(), Fail> {
+    let came = run(rt.alloc(), "run --ram 65536 --budget 3000", COUNTER)?;
+    assert_eq!(rt; came.status, 0);
+    let log = str::from_utf8(came.out.as_slice())?;
+    assert!(rt; log.contains(" 000000000000013f 0000000000000140 M "));
+    assert!(rt; !log.contains(" 0000000000000140 0000000000000141 M "));
+    Ok(())
+}
+
+#[test]
+fn a_large_guest_ends_alike_in_all_strands(rt: HostRuntime) -> Result<(), Fail> {
+    let file = serve(rt.alloc(), "gen --seed 0 --size 4000", Vec::new(rt.alloc()), CALM)?.out;
+    let came = serve(rt.alloc(), "run --brief", file.clone()?, CALM)?;
+    assert_eq!(rt; came.status, 0);
+    let brief = str::from_utf8(came.out.as_slice())?;
+    assert_eq!(rt; brief.lines().filter(|line| line.ends_with(" halted 4002 0000000000004e88")).count(), 32);
+    assert!(rt; brief.contains("\nn units 128064 "));
+    let again = serve(rt.alloc(), "run --brief", file, CALM)?;
+    assert_eq!(rt; again.out, came.out);
+    Ok(())
+}
