@@ -17,7 +17,7 @@ IsFew n = (0 < n) × (n ≤ 1024)
 -- a number that is this one, or that is within bounds by what comes later
 or_few : (n k : ℕ) (later : Bool) → IsFew k → (later ≡ true → IsFew n) → ((n == k) || later) ≡ true → IsFew n
 or_few n k later few rest h = elim (or_cases (n == k) later h) [
-  inl is ↦ subst (λ (m : ℕ). IsFew m) (sym (eqb-true n k is)) few
+  | inl is ↦ subst (λ (m : ℕ). IsFew m) (sym (eqb-true n k is)) few
   | inr more ↦ rest more
 ]
 

@@ -102,12 +102,7 @@ fn write_run<K: Sink>(alloc: Global, run: &Run, input: Vec<u8>, out: &mut K) -> 
 }
 
 /// Reads an ELF file, runs it and writes its log or summary.
-fn serve_run<S: Source, K: Sink>(
-    alloc: Global,
-    run: &Run,
-    input: &mut S,
-    out: &mut K,
-) -> Verdict
+fn serve_run<S: Source, K: Sink>(alloc: Global, run: &Run, input: &mut S, out: &mut K) -> Verdict
     requires { IsTrue (is_in_limits run.now.config) }
     ensures serves { OfInput (S.left input.old) (λ bytes. Judged run.now bytes (K.held out.old) (K.held out.new) result) }
     ensures usage { result ≢ Verdict.Usage }

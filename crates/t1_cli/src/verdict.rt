@@ -10,15 +10,9 @@ pub enum Verdict {
     /// The input is refused.
     Refused(Refusal),
     /// The first strand that ended by a trap at trap level 6, with the trap's type and its PC.
-    Fault {
-        strand: usize,
-        number: u16,
-        pc: u64,
-    },
+    Fault { strand: usize, number: u16, pc: u64 },
     /// No strand ended so, and this is the first whose budget is spent.
-    Spent {
-        strand: usize,
-    },
+    Spent { strand: usize },
     ReadFault,
     WriteFault,
     OutOfMemory,

@@ -111,7 +111,12 @@ end
 fn a_guest_is_written_and_nothing_is_read(rt: HostRuntime) -> Result<(), Fail> {
     // The first read would fail.
     let plan = Plan { read: 1, ..CALM };
-    let came = serve(rt.alloc(), "gen --seed 0 --size 2", Vec::new(rt.alloc()), plan)?;
+    let came = serve(
+        rt.alloc(),
+        "gen --seed 0 --size 2",
+        Vec::new(rt.alloc()),
+        plan,
+    )?;
     assert_eq!(rt; came.status, 0);
     let words = [0x21000020, 0x8143e002, 0xc60c21f0, 0xb5802000];
     assert_eq!(rt; came.out, file_of(rt.alloc(), &words, 0x1000, 0x1000)?);

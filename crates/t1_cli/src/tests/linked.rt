@@ -67,7 +67,12 @@ fn file(alloc: Global) -> Result<Vec<u8>, Fail> {
 
 #[test]
 fn a_file_of_the_linker_is_run_and_shown(rt: HostRuntime) -> Result<(), Fail> {
-    let came = serve(rt.alloc(), "run --cores 1 --strands 1", file(rt.alloc())?, CALM)?;
+    let came = serve(
+        rt.alloc(),
+        "run --cores 1 --strands 1",
+        file(rt.alloc())?,
+        CALM,
+    )?;
     assert_eq!(rt; came.status, 0);
     for line in [
         "entry 0000100000",

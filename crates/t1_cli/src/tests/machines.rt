@@ -77,7 +77,10 @@ fn windows_and_interrupts_come_back(rt: HostRuntime) -> Result<(), Fail> {
         assert_eq!(rt; came.status, 0);
         let log = str::from_utf8(came.out.as_slice())?;
         assert!(rt; log.contains(" store 0000000800 8 - 000000000000004d M "));
-        assert_eq!(rt; log.contains(" store 0000000808 8 - 0000000000000005 M "), guest == INTERRUPT);
+        assert_eq!(rt;
+            log.contains(" store 0000000808 8 - 0000000000000005 M "),
+            guest == INTERRUPT
+        );
     }
     Ok(())
 }
@@ -131,7 +134,10 @@ fn a_message_is_seen_after_its_flag(rt: HostRuntime) -> Result<(), Fail> {
     let line = "run --cores 2 --strands 1 --ram 65536";
     for came in by_each_schedule(rt.alloc(), line, MESSAGE)?.as_slice() {
         assert_eq!(rt; came.status, 0);
-        assert_eq!(rt; last_got(came.out.as_slice(), 1, "load", "0000008040")?, Some(1));
+        assert_eq!(rt;
+            last_got(came.out.as_slice(), 1, "load", "0000008040")?,
+            Some(1)
+        );
     }
     Ok(())
 }
@@ -200,7 +206,10 @@ fn code_that_was_written_is_fetched_after_a_flush(rt: HostRuntime) -> Result<(),
     let line = "run --cores 2 --strands 1 --ram 65536";
     for came in by_each_schedule(rt.alloc(), line, WRITTEN_CODE)?.as_slice() {
         assert_eq!(rt; came.status, 0);
-        assert_eq!(rt; last_got(came.out.as_slice(), 1, "fetch", "0000000400")?, Some(0xb580_2000));
+        assert_eq!(rt;
+            last_got(came.out.as_slice(), 1, "fetch", "0000000400")?,
+            Some(0xb580_2000)
+        );
     }
     Ok(())
 }
@@ -234,11 +243,23 @@ fn counts_of_32_strands_come_to_320(rt: HostRuntime) -> Result<(), Fail> {
 
 #[test]
 fn a_large_guest_ends_alike_in_all_strands(rt: HostRuntime) -> Result<(), Fail> {
-    let file = serve(rt.alloc(), "gen --seed 0 --size 4000", Vec::new(rt.alloc()), CALM)?.out;
+    let file = serve(
+        rt.alloc(),
+        "gen --seed 0 --size 4000",
+        Vec::new(rt.alloc()),
+        CALM,
+    )?
+    .out;
     let came = serve(rt.alloc(), "run --brief", file.clone()?, CALM)?;
     assert_eq!(rt; came.status, 0);
     let brief = str::from_utf8(came.out.as_slice())?;
-    assert_eq!(rt; brief.lines().filter(|line| line.ends_with(" halted 4002 0000000000004e88")).count(), 32);
+    assert_eq!(rt;
+        brief
+            .lines()
+            .filter(|line| line.ends_with(" halted 4002 0000000000004e88"))
+            .count(),
+        32
+    );
     assert!(rt; brief.contains("\nn units 128064 "));
     let again = serve(rt.alloc(), "run --brief", file, CALM)?;
     assert_eq!(rt; again.out, came.out);

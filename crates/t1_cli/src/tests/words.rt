@@ -56,8 +56,14 @@ fn words_ask_for_commands(rt: HostRuntime) -> Result<(), Fail> {
     };
     let table = [
         ("run", run(whole, None, false)),
-        ("run --brief --sets 1", run(Config { sets: 1, ..whole }, None, true)),
-        ("run --seed 18446744073709551615", run(whole, Some(u64::MAX), false)),
+        (
+            "run --brief --sets 1",
+            run(Config { sets: 1, ..whole }, None, true),
+        ),
+        (
+            "run --seed 18446744073709551615",
+            run(whole, Some(u64::MAX), false),
+        ),
         ("run --seed 18446744073709551616", None),
         ("run --seed 000000000000000000001", None),
         ("live", Some(Command::Live { config: whole })),
