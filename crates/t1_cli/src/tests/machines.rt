@@ -85,6 +85,28 @@ fn windows_and_interrupts_come_back(rt: HostRuntime) -> Result<(), Fail> {
     Ok(())
 }
 
+/// Stores a word, and loads its last byte.
+const STORE_AND_LOAD_A_BYTE: &str = "\
+        .org 0x100
+        mov 5, %g1
+        stw %g1, [0x200]
+        ldub [0x203], %g2
+        wr %g0, 0, %asr26
+";
+
+#[test]
+fn a_strand_sees_its_own_store(rt: HostRuntime) -> Result<(), Fail> {
+    let line = "run --cores 1 --strands 1 --ram 65536 --budget 10";
+    for came in by_each_schedule(rt.alloc(), line, STORE_AND_LOAD_A_BYTE)?.as_slice() {
+        assert_eq!(rt; came.status, 0);
+        assert_eq!(rt;
+            last_got(came.out.as_slice(), 0, "load", "0000000203")?,
+            Some(5)
+        );
+    }
+    Ok(())
+}
+
 /// Strand s stores 1 to 800 hex + 400 hex * s and loads the other's line.
 const STORE_THEN_LOAD: &str = "\
         .org 0x100
@@ -97,13 +119,45 @@ const STORE_THEN_LOAD: &str = "\
         wr %g0, 0, %asr26
 ";
 
+/// The same without the membar.
+fn unfenced(alloc: Global) -> Result<String, Fail> {
+    let mut guest = String::new(alloc);
+    for line in STORE_THEN_LOAD
+        .lines()
+        .filter(|line| !line.contains("membar"))
+    {
+        writeln!(guest, "{line}")?;
+    }
+    Ok(guest)
+}
+
+/// What the two loads got.
+fn two_loads(log: &[u8]) -> Result<(Option<u64>, Option<u64>), Fail> {
+    let first = last_got(log, 0, "load", "0000000c00")?;
+    let second = last_got(log, 1, "load", "0000000800")?;
+    Ok((first, second))
+}
+
+#[test]
+fn two_loads_may_pass_the_stores_before_them(rt: HostRuntime) -> Result<(), Fail> {
+    let line = "run --cores 2 --strands 1 --ram 65536 --budget 10";
+    let guest = unfenced(rt.alloc())?;
+    for came in by_each_schedule(rt.alloc(), line, guest.as_str())?.as_slice() {
+        assert_eq!(rt; came.status, 0);
+    }
+    let mut seeded = String::from_str(rt.alloc(), line)?;
+    seeded.push_str(" --seed 18")?;
+    let came = run(rt.alloc(), seeded.as_str(), guest.as_str())?;
+    assert_eq!(rt; two_loads(came.out.as_slice())?, (Some(0), Some(0)));
+    Ok(())
+}
+
 #[test]
 fn one_of_two_loads_sees_a_store_behind_a_membar(rt: HostRuntime) -> Result<(), Fail> {
     let line = "run --cores 2 --strands 1 --ram 65536 --budget 20";
     for came in by_each_schedule(rt.alloc(), line, STORE_THEN_LOAD)?.as_slice() {
         assert_eq!(rt; came.status, 0);
-        let first = last_got(came.out.as_slice(), 0, "load", "0000000c00")?;
-        let second = last_got(came.out.as_slice(), 1, "load", "0000000800")?;
+        let (first, second) = two_loads(came.out.as_slice())?;
         assert!(rt; first == Some(1) || second == Some(1));
     }
     Ok(())
@@ -231,13 +285,35 @@ again:  ldx [%l0], %g1
         wr %g0, 0, %asr26
 ";
 
+/// What the last atomic of the memory order that wrote put, in digits.
+fn last_put(alloc: Global, log: &str) -> Result<String, Fail> {
+    let mut writes = Vec::new(alloc);
+    for line in log.lines() {
+        if let Some((head, fields)) = line.split_once(" atomic ") {
+            let put = fields.split(" ").nth(3).unwrap_or("-");
+            if put != "-" {
+                writes.push((head.split_at(2).1, put))?;
+            }
+        }
+    }
+    let mut last = "";
+    for line in log.lines().filter(|line| line.starts_with("o ")) {
+        let place = line.split_at(2).1;
+        for (at, put) in writes.as_slice() {
+            if *at == place {
+                last = *put;
+            }
+        }
+    }
+    Ok(String::from_str(alloc, last)?)
+}
+
 #[test]
 fn counts_of_32_strands_come_to_320(rt: HostRuntime) -> Result<(), Fail> {
     let came = run(rt.alloc(), "run --ram 65536 --budget 3000", COUNTER)?;
     assert_eq!(rt; came.status, 0);
-    let log = str::from_utf8(came.out.as_slice())?;
-    assert!(rt; log.contains(" 000000000000013f 0000000000000140 M "));
-    assert!(rt; !log.contains(" 0000000000000140 0000000000000141 M "));
+    let put = last_put(rt.alloc(), str::from_utf8(came.out.as_slice())?)?;
+    assert_eq!(rt; put.as_str(), "0000000000000140");
     Ok(())
 }
 
