@@ -1,0 +1,10 @@
+pub mod Tables
+pub mod Marking
+pub mod Crossings
+pub mod Binding
+pub mod Standing
+pub mod Peaks
+pub mod LastWrites
+pub mod Words
+pub mod Reading
+pub mod Faults

@@ -1,0 +1,11 @@
+pub mod Checked
+pub mod Places
+pub mod Verdicts
+pub mod Table
+pub mod Positions
+pub mod Crossing
+pub mod Bounds
+pub mod Rules
+pub mod Latest
+pub mod Sources
+pub mod Wrong
