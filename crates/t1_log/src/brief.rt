@@ -93,7 +93,7 @@ fn totals_line(units: u64, items: u64, commits: u64, kills: u64, evicted: u64) -
     line.decimal(kills);
     line.text(" evicted ");
     line.decimal(evicted);
-    line.text("\n");
+    line.byte(b'\n');
     line
 }
 

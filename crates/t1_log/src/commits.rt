@@ -16,14 +16,14 @@ fn put_kill(line: &mut Line<COMMIT_ROOM>, kill: Kill)
     ensures value { line.new ≡ line.old ++ kill_field_of kill }
     ensures len { length line.new ≤ length line.old + 15 }
 {
-    line.text(" ");
+    line.byte(b' ');
     line.short(kill.core);
     match kill.cache {
         Cache::Dcache => line.text(".d."),
         Cache::Icache => line.text(".i."),
     }
     line.short(kill.set);
-    line.text(".");
+    line.byte(b'.');
     line.short(kill.way);
 }
 
@@ -47,7 +47,7 @@ fn put_way(line: &mut Line<COMMIT_ROOM>, way: Option<u8>)
 {
     match way {
         Some(way) => line.short(way),
-        None => line.text("-"),
+        None => line.byte(b'-'),
     }
 }
 
@@ -59,7 +59,7 @@ fn put_evicted(line: &mut Line<COMMIT_ROOM>, evicted: Option<u64>)
 {
     match evicted {
         Some(addr) => line.hex(10, addr),
-        None => line.text("-"),
+        None => line.byte(b'-'),
     }
 }
 
@@ -72,13 +72,13 @@ fn put_head(line: &mut Line<COMMIT_ROOM>, index: usize, commit: &Commit)
 {
     line.text("c ");
     line.decimal(index as u64);
-    line.text(" ");
+    line.byte(b' ');
     line.short(commit.dest);
-    line.text(" ");
+    line.byte(b' ');
     line.short(commit.strand);
-    line.text(" ");
+    line.byte(b' ');
     line.decimal(u64::from(commit.item));
-    line.text(" ");
+    line.byte(b' ');
 }
 
 /// The line of a commit, at its index.
@@ -90,9 +90,9 @@ pub(crate) fn commit_line(index: usize, commit: &Commit) -> Line<COMMIT_ROOM>
     let mut line = Line::new();
     put_head(&mut line, index, commit);
     put_way(&mut line, commit.way);
-    line.text(" ");
+    line.byte(b' ');
     put_evicted(&mut line, commit.evicted);
     put_kills(&mut line, &commit.kills);
-    line.text("\n");
+    line.byte(b'\n');
     line
 }

@@ -19,7 +19,7 @@ fn console_line(number: usize, bytes: &[u8]) -> Line<ROOM>
     let mut line = Line::new();
     line.text("k ");
     line.hex_bytes(bytes);
-    line.text("\n");
+    line.byte(b'\n');
     line
 }
 

@@ -37,9 +37,11 @@ impl<const CAP: usize> Line<CAP> {
         self.bytes.as_slice()
     }
 
-    fn byte(&mut self, byte: u8)
+    /// Appends a byte.
+    pub(crate) fn byte(&mut self, byte: u8)
         requires { length self.old + 1 ≤ CAP }
-        ensures { self.new ≡ self.old ++ byte ∷ [] }
+        ensures value { self.new ≡ self.old ++ byte ∷ [] }
+        ensures len { length self.new ≡ length self.old + 1 }
     {
         self.bytes.push(byte);
     }
@@ -54,24 +56,32 @@ impl<const CAP: usize> Line<CAP> {
     }
 
     /// Appends a number in decimal digits.
-    #[tactic(auto, using(crate::proofs::Lengths::decimal_short))]
+    #[tactic(auto, using(crate::proofs::Lengths::decimal_short, crate::proofs::Lengths::decimal_digit))]
     pub fn decimal(&mut self, number: u64)
         requires { length self.old + 20 ≤ CAP }
         ensures value { self.new ≡ self.old ++ decimal number }
         ensures len { length self.new ≤ length self.old + 20 }
     {
+        if number < 10 {
+            self.byte(b'0' + number as u8);
+            return;
+        }
         let mut buffer = Buffer::new();
         let digits = buffer.format(number);
         self.text(digits);
     }
 
     /// Appends a number below 256 in decimal digits.
-    #[tactic(auto, using(crate::proofs::Lengths::decimal_byte))]
+    #[tactic(auto, using(crate::proofs::Lengths::decimal_byte, crate::proofs::Lengths::decimal_digit))]
     pub fn short(&mut self, number: u8)
         requires { length self.old + 3 ≤ CAP }
         ensures value { self.new ≡ self.old ++ decimal number }
         ensures len { length self.new ≤ length self.old + 3 }
     {
+        if number < 10 {
+            self.byte(b'0' + number);
+            return;
+        }
         let mut buffer = Buffer::new();
         let digits = buffer.format(number);
         self.text(digits);

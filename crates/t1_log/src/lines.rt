@@ -25,7 +25,7 @@ pub(crate) fn config_line(config: &Config) -> Line<ROOM>
     line.decimal(u64::from(config.sets));
     line.text(" budget ");
     line.decimal(u64::from(config.budget));
-    line.text("\n");
+    line.byte(b'\n');
     line
 }
 
@@ -37,7 +37,7 @@ pub(crate) fn entry_line(entry: u64) -> Line<ROOM>
     let mut line = Line::new();
     line.text("entry ");
     line.hex(10, entry);
-    line.text("\n");
+    line.byte(b'\n');
     line
 }
 
@@ -50,9 +50,9 @@ pub(crate) fn block_line(addr: u64, block: &[u8]) -> Line<ROOM>
     let mut line = Line::new();
     line.text("m ");
     line.hex(10, addr);
-    line.text(" ");
+    line.byte(b' ');
     line.hex_bytes(block);
-    line.text("\n");
+    line.byte(b'\n');
     line
 }
 
@@ -68,7 +68,7 @@ fn put_got(line: &mut Line<ROOM>, item: &Item)
         ItemKind::Fetch | ItemKind::Load | ItemKind::Atomic { .. } => {
             line.hex(2 * u32::from(item.size), item.got);
         }
-        ItemKind::Store | ItemKind::Membar | ItemKind::Flush => line.text("-"),
+        ItemKind::Store | ItemKind::Membar | ItemKind::Flush => line.byte(b'-'),
     }
 }
 
@@ -84,7 +84,7 @@ fn put_put(line: &mut Line<ROOM>, item: &Item)
         ItemKind::Store | ItemKind::Atomic { wrote: true } => {
             line.hex(2 * u32::from(item.size), item.put);
         }
-        _ => line.text("-"),
+        _ => line.byte(b'-'),
     }
 }
 
@@ -97,11 +97,11 @@ fn put_access(line: &mut Line<ROOM>, item: &Item)
     ensures len { length line.new ≤ length line.old + 65 }
 {
     line.hex(10, item.addr);
-    line.text(" ");
+    line.byte(b' ');
     line.decimal(u64::from(item.size));
-    line.text(" ");
+    line.byte(b' ');
     put_got(line, item);
-    line.text(" ");
+    line.byte(b' ');
     put_put(line, item);
 }
 
@@ -151,10 +151,10 @@ fn put_ending(line: &mut Line<ROOM>, ending: Ending, units: u32, pc: u64)
         Ending::Fault(_) => line.text("fault "),
     }
     line.decimal(u64::from(units));
-    line.text(" ");
+    line.byte(b' ');
     line.hex(16, pc);
     if let Ending::Fault(number) = ending {
-        line.text(" ");
+        line.byte(b' ');
         line.hex(3, u64::from(number));
     }
 }
@@ -167,9 +167,9 @@ pub(crate) fn ending_line(strand: usize, ending: Ending, units: u32, pc: u64) ->
     let mut line = Line::new();
     line.text("e ");
     line.decimal(strand as u64);
-    line.text(" ");
+    line.byte(b' ');
     put_ending(&mut line, ending, units, pc);
-    line.text("\n");
+    line.byte(b'\n');
     line
 }
 
@@ -181,9 +181,9 @@ pub(crate) fn place_line(place: Place) -> Line<ROOM>
     let mut line = Line::new();
     line.text("o ");
     line.decimal(u64::from(place.strand));
-    line.text(" ");
+    line.byte(b' ');
     line.decimal(u64::from(place.item));
-    line.text("\n");
+    line.byte(b'\n');
     line
 }
 

@@ -52,7 +52,7 @@ fn put_place(line: &mut Line<ROOM>, how: How)
         How::Commit { index, seen } => {
             line.text(" M ");
             line.decimal(u64::from(index));
-            line.text(" ");
+            line.byte(b' ');
             line.decimal(u64::from(seen));
         }
     }
@@ -67,12 +67,12 @@ fn item_line(strand: usize, number: usize, item: &Item) -> Line<ROOM>
     let mut line = Line::new();
     line.text("i ");
     line.decimal(strand as u64);
-    line.text(" ");
+    line.byte(b' ');
     line.decimal(number as u64);
-    line.text(" ");
+    line.byte(b' ');
     put_item(&mut line, item);
     put_place(&mut line, item.how);
-    line.text("\n");
+    line.byte(b'\n');
     line
 }
 

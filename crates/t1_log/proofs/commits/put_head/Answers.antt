@@ -6,14 +6,14 @@ pub returns-clause-value : goal.returns-clause-value
 unfolding commit_head_of
 returns-clause-value c =
     simp (
-      c.text-5.ensures.value,
+      c.byte-4.ensures.value,
       c.decimal-2.ensures.value,
       c.from.ensures,
-      c.text-4.ensures.value,
+      c.byte-3.ensures.value,
       c.short-2.ensures.value,
-      c.text-3.ensures.value,
+      c.byte-2.ensures.value,
       c.short.ensures.value,
-      c.text-2.ensures.value,
+      c.byte.ensures.value,
       c.decimal.ensures.value,
       c.text.ensures.value,
       append_assoc,

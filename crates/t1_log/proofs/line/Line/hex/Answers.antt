@@ -6,7 +6,7 @@ use Rattle.t1_log.proofs.line.Line.hex.Goals as goal
 
 pub loop-place-preserved : goal.loop-place-preserved
 loop-place-preserved g c = record {
-  all = ap (λ bytes. bytes ++ hex_of (c.loop-place.place - 1) c.args.number) c.byte.ensures
+  all = ap (λ bytes. bytes ++ hex_of (c.loop-place.place - 1) c.args.number) c.byte.ensures.value
       ∙ hex_more _ c.loop-place.place _ _ (omega arith) c.digit.ensures ∙ c.loop-place.invariant.all;
   room = grind (arith, common_steps);
 }
