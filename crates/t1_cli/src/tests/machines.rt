@@ -292,20 +292,22 @@ fn last_put(alloc: Global, log: &str) -> Result<String, Fail> {
         if let Some((head, fields)) = line.split_once(" atomic ") {
             let put = fields.split(" ").nth(3).unwrap_or("-");
             if put != "-" {
-                writes.push((head.split_at(2).1, put))?;
+                writes.push((head.strip_prefix("i ").unwrap_or(""), put))?;
             }
         }
     }
-    let mut last = "";
-    for line in log.lines().filter(|line| line.starts_with("o ")) {
-        let place = line.split_at(2).1;
-        for (at, put) in writes.as_slice() {
-            if *at == place {
-                last = *put;
+    let mut last = writes.len();
+    for line in log.lines() {
+        if let Some(place) = line.strip_prefix("o ") {
+            if let Some(number) = writes.iter().position(|(at, _)| *at == place) {
+                last = number;
             }
         }
     }
-    Ok(String::from_str(alloc, last)?)
+    match writes.get(last) {
+        Some((_, put)) => Ok(String::from_str(alloc, put)?),
+        None => Ok(String::new(alloc)),
+    }
 }
 
 #[test]
