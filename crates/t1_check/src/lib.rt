@@ -11,10 +11,10 @@
 //! }
 //! ```
 //!
-//! The order is turned into a table first: the position of each item, counted from 1. Then
-//! `order` asks of positions alone what load-op, store-store and barrier ask, and `value` keeps for
-//! each byte the greatest position of a write, over the memory order and over each strand. What a
-//! verdict says stands in `specs/Verdicts.antt`, in the words of the memory order.
+//! The order is turned into a table first: the position of each item, counted from 1. Then `rules` asks
+//! of positions alone what load-op, store-store and barrier ask, and `value` finds for each byte of a
+//! read the greatest position of a write that it may see, over the memory order and over its own
+//! strand. What a verdict says stands in `specs/Verdicts.antt`, in the words of the memory order.
 #![tactic(auto)]
 
 mod axioms;

@@ -14,6 +14,7 @@ use Rattle.t1_cli.specs.Runs.{IsReportOfInput, printed_of, fault_of, spent_of, f
 use Rattle.t1_cli.specs.Serial.{HasNoText}
 use Rattle.t1_cli.specs.Statuses.{status_of_verdict}
 use Rattle.t1_cli.specs.Verdict.{RanTo, EndedIn, Judged}
+use Rattle.t1_cli.proofs.Judging.{went_well}
 
 -- ---- one trace more
 
@@ -99,6 +100,7 @@ end_judged run input old new (verdict.Refused why) end ran = absurd end
 end_judged run input old new verdict.ReadFault end ran = absurd end
 end_judged run input old new verdict.WriteFault end ran = absurd end
 end_judged run input old new verdict.OutOfMemory end ran = absurd end
+end_judged run input old new verdict.NotInOrder end ran = absurd end
 
 end_has_text : (v : Verdict) → IsEnd v → HasNoText (status_of_verdict v) → ⊥
 end_has_text verdict.Good end none = none
@@ -109,6 +111,7 @@ end_has_text (verdict.Refused why) end none = end
 end_has_text verdict.ReadFault end none = end
 end_has_text verdict.WriteFault end none = end
 end_has_text verdict.OutOfMemory end none = end
+end_has_text verdict.NotInOrder end none = end
 
 -- a verdict on how the strands of a report ended, whose text was written
 pub record Ended (run : Run) (input : List ℕ) (old new : Option (List ℕ)) (v : Verdict) : Type 0 where
@@ -116,11 +119,6 @@ pub record Ended (run : Run) (input : List ℕ) (old new : Option (List ℕ)) (v
   pub text : HasNoText (status_of_verdict v) → ⊥
   pub no_write_fault : v ≡ verdict.WriteFault → ⊥
   pub no_read_fault : v ≡ verdict.ReadFault → ⊥
-
--- what was written where the write went well
-went_well : {T E : Type 0} (r : Result T E) (P : Type 0) → false ≡ is_err r → OnOk r P → P
-went_well (Ok v) P went ok = ok
-went_well (Err e) P went ok = let no : ⊥ = cc in absurd no
 
 -- the text of a report was written, and the verdict is how its strands ended
 pub ended_so : {T E : Type 0} (run : Run) (input : List ℕ) (old new : Option (List ℕ)) (report : Report) (wrote : Result T E) (v : Verdict)

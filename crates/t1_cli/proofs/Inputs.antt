@@ -14,7 +14,7 @@ use Rattle.t1_cli.specs.Made.{unless_long, asm_of, dis_of, file_or_fault, lines_
 use Rattle.t1_cli.specs.Runs.{most_input, is_long}
 use Rattle.t1_cli.specs.Serial.{WasLeft, HasText}
 use Rattle.t1_cli.specs.Statuses.{status_of_verdict}
-use Rattle.t1_cli.specs.Verdict.{OfInput, IsUnread, Judged, IsText, Made, FaultTold}
+use Rattle.t1_cli.specs.Verdict.{OfInput, IsUnread, Judged, IsText, Made, Checked, FaultTold}
 use Rattle.t1_cli.proofs.Reports.{too_long}
 
 -- an input that was left
@@ -55,6 +55,7 @@ not_read left verdict.Usage unread = absurd unread
 not_read left (verdict.Fault strand number pc) unread = absurd unread
 not_read left (verdict.Spent strand) unread = absurd unread
 not_read left verdict.WriteFault unread = absurd unread
+not_read left verdict.NotInOrder unread = absurd unread
 
 -- of a command that says this of an input
 unread_says : (left : Option (List ℕ)) (v : Verdict) (says : List ℕ → Verdict → Type 0)
@@ -67,15 +68,21 @@ unread_says left (verdict.Refused refusal.TooLong) says failed wanting long unre
     record { input = unread.input; read = unread.read; holds = long unread.input unread.holds }
 unread_says left (verdict.Refused (refusal.Misformed error)) says failed wanting long unread = absurd unread
 unread_says left (verdict.Refused (refusal.Faulty line fault)) says failed wanting long unread = absurd unread
+unread_says left (verdict.Refused (refusal.NoLog line kind)) says failed wanting long unread = absurd unread
 unread_says left verdict.Good says failed wanting long unread = absurd unread
 unread_says left verdict.Usage says failed wanting long unread = absurd unread
 unread_says left (verdict.Fault strand number pc) says failed wanting long unread = absurd unread
 unread_says left (verdict.Spent strand) says failed wanting long unread = absurd unread
 unread_says left verdict.WriteFault says failed wanting long unread = absurd unread
+unread_says left verdict.NotInOrder says failed wanting long unread = absurd unread
 
 pub unread_run : (run : Run) (left old new : Option (List ℕ)) (v : Verdict) → IsUnread left v → OfInput left (λ input. Judged run input old new v)
 unread_run run left old new v unread =
     unread_says left v (λ input w. Judged run input old new w) (λ input. tt) (λ input. tt) (λ input long. too_long run.config input long) unread
+
+pub unread_check : (left old new : Option (List ℕ)) (v : Verdict) → IsUnread left v → OfInput left (λ input. Checked input old new v)
+unread_check left old new v unread =
+    unread_says left v (λ input w. Checked input old new w) (λ input. tt) (λ input. tt) (λ input long. long) unread
 
 unread_text : (makes : List ℕ → Result (List ℕ) Refusal) (left old new : Option (List ℕ)) (v : Verdict)
     → ((input : List ℕ) → most_input < length input → makes input ≡ Err refusal.TooLong)
@@ -113,12 +120,14 @@ fault_made text old new (verdict.Refused (refusal.Faulty line fault)) short told
 fault_made text old new verdict.OutOfMemory short told = tt
 fault_made text old new (verdict.Refused refusal.TooLong) short told = absurd told
 fault_made text old new (verdict.Refused (refusal.Misformed error)) short told = absurd told
+fault_made text old new (verdict.Refused (refusal.NoLog line kind)) short told = absurd told
 fault_made text old new verdict.Good short told = absurd told
 fault_made text old new verdict.Usage short told = absurd told
 fault_made text old new (verdict.Fault strand number pc) short told = absurd told
 fault_made text old new (verdict.Spent strand) short told = absurd told
 fault_made text old new verdict.ReadFault short told = absurd told
 fault_made text old new verdict.WriteFault short told = absurd told
+fault_made text old new verdict.NotInOrder short told = absurd told
 
 -- ---- a text that was made and written
 

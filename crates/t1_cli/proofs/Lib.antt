@@ -3,3 +3,4 @@ pub mod Reports
 pub mod Inputs
 pub mod Endings
 pub mod Verdicts
+pub mod Judging

@@ -1,9 +1,10 @@
 -- What a verdict says of the input is what its status promises.
 use Rattle.std.proofs.Common.{◌≡◌, ◌↔◌, ℕ, List, [], Option, Some, None, Result, Ok, Err, refl, ap, sym, ◌∙◌, subst, append-nil}
-use Rattle.std.specs.Prelude.{OnOk, OnErr}
+use Rattle.std.specs.Prelude.{OnOk, OnErr, ⊤}
 use Rattle.std.specs.Io.KnownBytes.{IsAtEnd}
 use Rattle.t1_io.specs.Causes.{HasCause}
 use Rattle.t1_io.specs.Held.{Grew, GrewPart}
+use Rattle.t1_check.specs.declared.verdict.Verdict.{Verdict as Judgement}
 use Rattle.t1_cli.specs.declared.command.Run.{Run}
 use Rattle.t1_cli.specs.declared.command.Task.{Task}
 use Rattle.t1_cli.specs.declared.command.Task.TheVariants as task
@@ -12,10 +13,11 @@ use Rattle.t1_cli.specs.declared.status.Status.{Status}
 use Rattle.t1_cli.specs.declared.status.Status.TheVariants as status
 use Rattle.t1_cli.specs.declared.verdict.Verdict.{Verdict}
 use Rattle.t1_cli.specs.declared.verdict.Verdict.TheVariants as verdict
+use Rattle.t1_cli.specs.Checks.{HoldsSo, BreaksSo}
 use Rattle.t1_cli.specs.Made.{asm_of, dis_of}
-use Rattle.t1_cli.specs.Serial.{WasLeft, HasText, Answers, AnswersInput, PrintsRun, EndedAs, AnswersRun, AnswersText, AnswersGen, AnswersTask, ReadsNothing, TellsLine, status_of_made, status_of_text}
+use Rattle.t1_cli.specs.Serial.{WasLeft, HasText, Answers, AnswersInput, PrintsRun, EndedAs, PrintsVerdict, AnswersRun, AnswersText, AnswersCheck, AnswersGen, AnswersTask, ReadsNothing, TellsLine, status_of_made, status_of_text}
 use Rattle.t1_cli.specs.Statuses.{status_of_verdict}
-use Rattle.t1_cli.specs.Verdict.{RanTo, EndedIn, Judged, Made, Guests, ServesTask}
+use Rattle.t1_cli.specs.Verdict.{RanTo, EndedIn, IsChecked, Judged, Made, Checked, Guests, ServesTask}
 
 -- ---- lines on err
 
@@ -72,6 +74,7 @@ run_answers run left left' old new verdict.Usage input read j end = absurd j
 run_answers run left left' old new (verdict.Refused why) input read j end = record { input = input; read = read; why = why; refused = j }
 run_answers run left left' old new verdict.ReadFault input read j end = tt
 run_answers run left left' old new verdict.OutOfMemory input read j end = tt
+run_answers run left left' old new verdict.NotInOrder input read j end = absurd j
 run_answers run left left' old new verdict.WriteFault input read j end =
     record { input = input; read = read; report = j.report; is_report = j.is_report; came = tt; printed = j.printed }
 
@@ -98,6 +101,26 @@ text_answers makes left left' old new verdict.OutOfMemory input read j end =
 text_answers makes left left' old new verdict.Usage input read j end = absurd j
 text_answers makes left left' old new (verdict.Fault strand number pc) input read j end = absurd j
 text_answers makes left left' old new (verdict.Spent strand) input read j end = absurd j
+text_answers makes left left' old new verdict.NotInOrder input read j end = absurd j
+
+-- ---- the command check
+
+checked_answers : (left : Option (List ℕ)) (input : List ℕ) (judged : Judgement → Type 0) (grew : List ℕ → Type 0) → WasLeft left input
+    → IsChecked input judged grew → PrintsVerdict left judged grew
+checked_answers left input judged grew read j =
+    record { input = input; read = read; report = j.report; log = j.log; judgement = j.judgement; judges = j.judges; came = j.came; printed = j.printed }
+
+check_answers : (left left' old new : Option (List ℕ)) (v : Verdict) (input : List ℕ) → WasLeft left input → Checked input old new v
+    → (HasText (status_of_verdict v) → IsAtEnd left') → AnswersCheck left left' old new (status_of_verdict v)
+check_answers left left' old new verdict.Good input read j end = (checked_answers left input HoldsSo (Grew old new) read j, end tt)
+check_answers left left' old new verdict.NotInOrder input read j end = (checked_answers left input BreaksSo (Grew old new) read j, end tt)
+check_answers left left' old new verdict.WriteFault input read j end = checked_answers left input (λ judgement. ⊤) (GrewPart old new) read j
+check_answers left left' old new (verdict.Refused why) input read j end = record { input = input; read = read; why = why; refused = j }
+check_answers left left' old new verdict.ReadFault input read j end = tt
+check_answers left left' old new verdict.OutOfMemory input read j end = tt
+check_answers left left' old new verdict.Usage input read j end = absurd j
+check_answers left left' old new (verdict.Fault strand number pc) input read j end = absurd j
+check_answers left left' old new (verdict.Spent strand) input read j end = absurd j
 
 -- ---- the command gen
 
@@ -109,6 +132,7 @@ gen_answers seed size old new verdict.Usage came = absurd came
 gen_answers seed size old new (verdict.Refused why) came = absurd came
 gen_answers seed size old new (verdict.Fault strand number pc) came = absurd came
 gen_answers seed size old new (verdict.Spent strand) came = absurd came
+gen_answers seed size old new verdict.NotInOrder came = absurd came
 gen_answers seed size old new verdict.ReadFault came = absurd came
 
 -- ---- all commands
@@ -123,6 +147,8 @@ verdict_answers (Some task.Asm) left left' old new v serves end =
     text_answers asm_of left left' old new v serves.input serves.read serves.holds (end (λ bad. bad))
 verdict_answers (Some task.Dis) left left' old new v serves end =
     text_answers dis_of left left' old new v serves.input serves.read serves.holds (end (λ bad. bad))
+verdict_answers (Some task.Check) left left' old new v serves end =
+    check_answers left left' old new v serves.input serves.read serves.holds (end (λ bad. bad))
 verdict_answers (Some (task.Gen seed size)) left left' old new v serves end = gen_answers seed size old new v serves
 
 pub task_answers : (asked asked' : Option Task) (left left' old new : Option (List ℕ)) (v : Verdict) (result : Status) → asked ≡ asked'
@@ -149,6 +175,7 @@ usage_back (verdict.Spent strand) h = cc
 usage_back verdict.ReadFault h = cc
 usage_back verdict.WriteFault h = cc
 usage_back verdict.OutOfMemory h = cc
+usage_back verdict.NotInOrder h = cc
 
 pub usage_of : (asked asked' : Option Task) (v : Verdict) (result : Status) → asked ≡ asked' → result ≡ status_of_verdict v
     → ((v ≡ verdict.Usage) ↔ (asked ≡ None)) → ((result ≡ status.Usage) ↔ (asked' ≡ None))

@@ -1,6 +1,7 @@
 pub mod Words
 pub mod Runs
 pub mod Lines
+pub mod Checks
 pub mod Made
 pub mod Codes
 pub mod Statuses

@@ -5,13 +5,17 @@ use Rattle.t1_io.specs.Causes.{Rose}
 use Rattle.t1_io.specs.Held.{Grew, GrewPart}
 use Rattle.t1_elf.specs.Saved.{saved}
 use Rattle.t1_event.specs.declared.report.Report.{Report}
+use Rattle.t1_event.specs.Items.{items_of}
 use Rattle.t1_gen.specs.Guests.{generated}
+use Rattle.t1_check.specs.declared.verdict.Verdict.{Verdict as Judgement}
+use Rattle.t1_check.specs.Verdicts.{Judges}
 use Rattle.t1_cli.specs.declared.command.Run.{Run}
 use Rattle.t1_cli.specs.declared.command.Task.{Task}
 use Rattle.t1_cli.specs.declared.command.Task.TheVariants as task
 use Rattle.t1_cli.specs.declared.refusal.Refusal.{Refusal}
 use Rattle.t1_cli.specs.declared.status.Status.{Status}
 use Rattle.t1_cli.specs.declared.status.Status.TheVariants as status
+use Rattle.t1_cli.specs.Checks.{IsLogOf, IsNoLog, HoldsSo, BreaksSo, checked_line}
 use Rattle.t1_cli.specs.Made.{asm_of, dis_of}
 use Rattle.t1_cli.specs.Runs.{IsReportOfInput, printed_of, refusal_of, ended_of}
 use Rattle.t1_cli.specs.Statuses.{status_of_verdict}
@@ -31,7 +35,7 @@ HasText status.Refused = ⊥
 HasText status.ReadFault = ⊥
 HasText status.WriteFault = ⊥
 HasText status.OutOfMemory = ⊥
-HasText status.NotInOrder = ⊥
+HasText status.NotInOrder = ⊤
 
 -- a status of a command that wrote nothing
 abbrev pub HasNoText : Status → Type 0
@@ -138,6 +142,40 @@ pub record AnswersText (makes : List ℕ → Result (List ℕ) Refusal) (left le
   pub exact : AnswersInput (status_of_text makes) left result
   pub came : CameOfText makes left left' old new result
 
+-- ---- the command check
+
+-- the input is the log of a well-formed report, whose order is judged so, and what was written grew by the verdict
+-- in this way
+pub record PrintsVerdict (left : Option (List ℕ)) (judged : Judgement → Type 0) (grew : List ℕ → Type 0) : Type 0 where
+  pub input : List ℕ
+  pub read : WasLeft left input
+  pub report : Report
+  pub log : IsLogOf input report
+  pub judgement : Judgement
+  pub judges : Judges judgement report.image.ram (items_of report.traces) report.order
+  pub came : judged judgement
+  pub printed : grew (checked_line judgement)
+
+-- the input is refused
+pub record RefusesLog (left : Option (List ℕ)) : Type 0 where
+  pub input : List ℕ
+  pub read : WasLeft left input
+  pub why : Refusal
+  pub refused : IsNoLog input why
+
+-- the order holds, or it is broken; a front of the verdict was written; the input is refused; a read failed, or memory
+-- was wanting
+abbrev pub AnswersCheck : Option (List ℕ) → Option (List ℕ) → Option (List ℕ) → Option (List ℕ) → Status → Type 0
+AnswersCheck left left' old new status.Good = PrintsVerdict left HoldsSo (Grew old new) × IsAtEnd left'
+AnswersCheck left left' old new status.NotInOrder = PrintsVerdict left BreaksSo (Grew old new) × IsAtEnd left'
+AnswersCheck left left' old new status.WriteFault = PrintsVerdict left (λ judgement. ⊤) (GrewPart old new)
+AnswersCheck left left' old new status.Refused = RefusesLog left
+AnswersCheck left left' old new status.ReadFault = ⊤
+AnswersCheck left left' old new status.OutOfMemory = ⊤
+AnswersCheck left left' old new status.Usage = ⊥
+AnswersCheck left left' old new status.Fault = ⊥
+AnswersCheck left left' old new status.Spent = ⊥
+
 -- ---- the command gen
 
 -- the saved guest was written, or a front of it, or memory was wanting
@@ -160,6 +198,7 @@ AnswersTask None left left' old new result = result ≡ status.Usage
 AnswersTask (Some (task.Run run)) left left' old new result = AnswersRun run left left' old new result
 AnswersTask (Some task.Asm) left left' old new result = AnswersText asm_of left left' old new result
 AnswersTask (Some task.Dis) left left' old new result = AnswersText dis_of left left' old new result
+AnswersTask (Some task.Check) left left' old new result = AnswersCheck left left' old new result
 AnswersTask (Some (task.Gen seed size)) left left' old new result = AnswersGen seed size old new result
 
 -- the words ask for a guest, which reads no input, or for nothing
@@ -168,6 +207,7 @@ ReadsNothing None = ⊤
 ReadsNothing (Some (task.Run run)) = ⊥
 ReadsNothing (Some task.Asm) = ⊥
 ReadsNothing (Some task.Dis) = ⊥
+ReadsNothing (Some task.Check) = ⊥
 ReadsNothing (Some (task.Gen seed size)) = ⊤
 
 -- a front of a line was written, and the whole line where the count of faults did not rise

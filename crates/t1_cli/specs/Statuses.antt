@@ -13,3 +13,4 @@ status_of_verdict (verdict.Spent strand) = status.Spent
 status_of_verdict verdict.ReadFault = status.ReadFault
 status_of_verdict verdict.WriteFault = status.WriteFault
 status_of_verdict verdict.OutOfMemory = status.OutOfMemory
+status_of_verdict verdict.NotInOrder = status.NotInOrder

@@ -4,7 +4,11 @@ use Rattle.t1_io.specs.Held.{Grew, GrewPart}
 use Rattle.t1_elf.specs.Saved.{saved}
 use Rattle.t1_event.specs.declared.report.Config.{Config}
 use Rattle.t1_event.specs.declared.report.Report.{Report}
+use Rattle.t1_event.specs.Items.{items_of}
 use Rattle.t1_gen.specs.Guests.{generated}
+use Rattle.t1_check.specs.declared.verdict.Verdict.{Verdict as Judgement}
+use Rattle.t1_check.specs.declared.verdict.Verdict.TheVariants.{Holds, Broken}
+use Rattle.t1_check.specs.Verdicts.{Judges}
 use Rattle.t1_stmt.specs.declared.fault.Fault.{Fault}
 use Rattle.t1_cli.specs.declared.command.Run.{Run}
 use Rattle.t1_cli.specs.declared.command.Task.{Task}
@@ -15,6 +19,7 @@ use Rattle.t1_cli.specs.declared.status.Status.{Status}
 use Rattle.t1_cli.specs.declared.verdict.Verdict.{Verdict}
 use Rattle.t1_cli.specs.declared.verdict.Verdict.TheVariants as verdict
 use Rattle.t1_cli.specs.Lines.{refusal_line, fault_line, spent_line}
+use Rattle.t1_cli.specs.Checks.{IsLogOf, IsNoLog, HoldsSo, BreaksSo, checked_line}
 use Rattle.t1_cli.specs.Made.{asm_of, dis_of}
 use Rattle.t1_cli.specs.Runs.{most_input, refusal_of, IsReportOfInput, printed_of, ended_of}
 use Rattle.t1_cli.specs.Statuses.{status_of_verdict}
@@ -30,6 +35,7 @@ verdict_line_of (verdict.Spent strand) = spent_line strand
 verdict_line_of verdict.ReadFault = codes "t1sim: read fault\n"
 verdict_line_of verdict.WriteFault = codes "t1sim: write fault\n"
 verdict_line_of verdict.OutOfMemory = codes "t1sim: out of memory\n"
+verdict_line_of verdict.NotInOrder = codes "t1sim: not in order\n"
 
 -- ---- what was read
 
@@ -69,6 +75,7 @@ Judged run input old new (verdict.Spent strand) = RanTo run input (EndedIn (verd
 Judged run input old new verdict.ReadFault = ⊤
 Judged run input old new verdict.WriteFault = RanTo run input (λ report. ⊤) (GrewPart old new)
 Judged run input old new verdict.OutOfMemory = ⊤
+Judged run input old new verdict.NotInOrder = ⊥
 
 -- a verdict tells why the input is not run, or memory was wanting
 abbrev pub IsRefusal : Config → List ℕ → Verdict → Type 0
@@ -100,6 +107,35 @@ Made made old new verdict.OutOfMemory = ⊤
 Made made old new verdict.Usage = ⊥
 Made made old new (verdict.Fault strand number pc) = ⊥
 Made made old new (verdict.Spent strand) = ⊥
+Made made old new verdict.NotInOrder = ⊥
+
+-- ---- the command check
+
+-- the input is a log, judged so, and what was written grew by the verdict in this way
+pub record IsChecked (input : List ℕ) (judged : Judgement → Type 0) (grew : List ℕ → Type 0) : Type 0 where
+  pub report : Report
+  pub log : IsLogOf input report
+  pub judgement : Judgement
+  pub judges : Judges judgement report.image.ram (items_of report.traces) report.order
+  pub came : judged judgement
+  pub printed : grew (checked_line judgement)
+
+-- the verdict on an order that is judged so
+abbrev pub told_of : Judgement → Verdict
+told_of Holds = verdict.Good
+told_of (Broken law first second) = verdict.NotInOrder
+
+-- what a verdict says of the input and of what was written
+abbrev pub Checked : List ℕ → Option (List ℕ) → Option (List ℕ) → Verdict → Type 0
+Checked input old new verdict.Good = IsChecked input HoldsSo (Grew old new)
+Checked input old new verdict.NotInOrder = IsChecked input BreaksSo (Grew old new)
+Checked input old new verdict.WriteFault = IsChecked input (λ judgement. ⊤) (GrewPart old new)
+Checked input old new (verdict.Refused why) = IsNoLog input why
+Checked input old new verdict.ReadFault = ⊤
+Checked input old new verdict.OutOfMemory = ⊤
+Checked input old new verdict.Usage = ⊥
+Checked input old new (verdict.Fault strand number pc) = ⊥
+Checked input old new (verdict.Spent strand) = ⊥
 
 -- ---- the command gen
 
@@ -112,6 +148,7 @@ Guests seed size old new verdict.Usage = ⊥
 Guests seed size old new (verdict.Refused why) = ⊥
 Guests seed size old new (verdict.Fault strand number pc) = ⊥
 Guests seed size old new (verdict.Spent strand) = ⊥
+Guests seed size old new verdict.NotInOrder = ⊥
 Guests seed size old new verdict.ReadFault = ⊥
 
 -- ---- all commands
@@ -122,6 +159,7 @@ ServesTask None left old new came = came ≡ verdict.Usage
 ServesTask (Some (task.Run run)) left old new came = OfInput left (λ input. Judged run input old new came)
 ServesTask (Some task.Asm) left old new came = OfInput left (λ input. Made (asm_of input) old new came)
 ServesTask (Some task.Dis) left old new came = OfInput left (λ input. Made (dis_of input) old new came)
+ServesTask (Some task.Check) left old new came = OfInput left (λ input. Checked input old new came)
 ServesTask (Some (task.Gen seed size)) left old new came = Guests seed size old new came
 
 -- one verdict on one input has the status, and its line is told

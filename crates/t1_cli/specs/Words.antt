@@ -188,7 +188,7 @@ abbrev pub schedule_of : Option ℕ → Schedule
 schedule_of None = schedule.Turns
 schedule_of (Some seed) = schedule.Seed seed
 
--- a run of the machine, the assembler and the disassembler, a guest; not yet the checker and the threads
+-- a run of the machine, the assembler, the disassembler and the checker, a guest; not yet the threads
 abbrev pub served : Option Command → Option Task
 served None = None
 served (Some (command.Run config seed brief)) = Some (task.Run (record { config = config; schedule = schedule_of seed; brief = brief }))
@@ -196,7 +196,7 @@ served (Some (command.Gen seed size)) = Some (task.Gen seed size)
 served (Some (command.Live config)) = None
 served (Some command.Asm) = Some task.Asm
 served (Some command.Dis) = Some task.Dis
-served (Some command.Check) = None
+served (Some command.Check) = Some task.Check
 
 abbrev pub task_of : List (List ℕ) → Option Task
 task_of words = served (command_of words)
@@ -206,4 +206,5 @@ abbrev pub IsTask : Task → Type 0
 IsTask (task.Run run) = IsTrue (is_in_limits run.config)
 IsTask task.Asm = ⊤
 IsTask task.Dis = ⊤
+IsTask task.Check = ⊤
 IsTask (task.Gen seed size) = (1 ≤ size) × (size ≤ 4000)

@@ -37,12 +37,13 @@ pub(crate) struct Run {
 }
 
 /// What the serial command does: a run of the machine, the file of an assembly text, the words of a
-/// file, or a guest.
+/// file, the verdict on a log, or a guest.
 #[derive(Clone, Copy, Debug, PartialEq, Eq)]
 pub(crate) enum Task {
     Run(Run),
     Asm,
     Dis,
+    Check,
     Gen { seed: u64, size: u32 },
 }
 

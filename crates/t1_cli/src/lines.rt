@@ -1,12 +1,13 @@
 //! The lines on err.
 ghost use Rattle.std.specs.Prelude.{◌≡◌, ◌≤◌, length};
-ghost use Rattle.t1_cli.specs.Lines.{name_of, fault_name_of, elf_line, asm_line, refusal_line, fault_line, spent_line};
+ghost use Rattle.t1_cli.specs.Lines.{name_of, fault_name_of, kind_name_of, elf_line, asm_line, log_line, refusal_line, fault_line, spent_line};
 ghost use Rattle.t1_cli.specs.Verdict.{verdict_line_of};
 
 use crate::refusal::Refusal;
 use crate::verdict::Verdict;
 use t1_elf::ElfError;
 use t1_log::Line;
+use t1_read::LogKind;
 use t1_stmt::fault::Fault;
 
 /// The most bytes of a line on err, and room to make it.
@@ -72,6 +73,32 @@ fn faulty(number: u32, fault: Fault) -> Line<LINE>
     line
 }
 
+/// The name of a kind of fault of a log.
+fn kind_name_of(kind: LogKind) -> &'static str
+    ensures value { result.now ≡ kind_name_of kind }
+    ensures short { length result.now ≤ 16 }
+{
+    match kind {
+        LogKind::Version => "Version",
+        LogKind::Syntax => "Syntax",
+        LogKind::Range => "Range",
+        LogKind::Unended => "Unended",
+        LogKind::OutOfMemory => "OutOfMemory",
+    }
+}
+
+fn no_log(number: u32, kind: LogKind) -> Line<LINE>
+    ensures { result ≡ log_line number kind }
+{
+    let mut line = Line::new();
+    line.text("t1sim: log line ");
+    line.decimal(u64::from(number));
+    line.text(": ");
+    line.text(kind_name_of(kind));
+    line.text("\n");
+    line
+}
+
 fn refused(why: Refusal) -> Line<LINE>
     ensures { result ≡ refusal_line why }
 {
@@ -79,6 +106,7 @@ fn refused(why: Refusal) -> Line<LINE>
         Refusal::TooLong => fixed("t1sim: input too long\n"),
         Refusal::Misformed(error) => misformed(error),
         Refusal::Faulty { line, fault } => faulty(line, fault),
+        Refusal::NoLog { line, kind } => no_log(line, kind),
     }
 }
 
@@ -130,5 +158,6 @@ pub(crate) fn verdict_line(verdict: Verdict) -> Line<LINE>
         Verdict::ReadFault => fixed("t1sim: read fault\n"),
         Verdict::WriteFault => fixed("t1sim: write fault\n"),
         Verdict::OutOfMemory => fixed("t1sim: out of memory\n"),
+        Verdict::NotInOrder => fixed("t1sim: not in order\n"),
     }
 }

@@ -1,6 +1,7 @@
 //! Why an input is refused.
 
 use t1_elf::ElfError;
+use t1_read::LogKind;
 use t1_stmt::fault::Fault;
 
 /// Why an input is refused.
@@ -12,4 +13,6 @@ pub enum Refusal {
     Misformed(ElfError),
     /// It is a text whose first line at fault has this number, counted from 1.
     Faulty { line: u32, fault: Fault },
+    /// It is no log: the first line at fault, counted from 1, and its kind.
+    NoLog { line: u32, kind: LogKind },
 }

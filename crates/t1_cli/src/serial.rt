@@ -10,9 +10,10 @@ ghost use Rattle.t1_cli.specs.Made.{asm_of, dis_of};
 ghost use Rattle.t1_cli.specs.Runs.{printed_of};
 ghost use Rattle.t1_cli.specs.Statuses.{status_of_verdict};
 ghost use Rattle.t1_cli.specs.Serial.{WasLeft, HasText, HasNoText, AnswersTask, ReadsNothing, TellsLine};
-ghost use Rattle.t1_cli.specs.Verdict.{OfInput, IsUnread, Judged, Made, Guests, ServesTask, Tells};
+ghost use Rattle.t1_cli.specs.Verdict.{OfInput, IsUnread, Judged, Made, Checked, Guests, ServesTask, Tells};
 ghost use Rattle.t1_cli.specs.Words.{task_of, is_in_limits, IsTask};
 
+use crate::checks::write_verdict;
 use crate::command::{Run, Task};
 use crate::ended::ended;
 use crate::lines::verdict_line;
@@ -47,6 +48,7 @@ impl Verdict {
             Verdict::ReadFault => Status::ReadFault,
             Verdict::WriteFault => Status::WriteFault,
             Verdict::OutOfMemory => Status::OutOfMemory,
+            Verdict::NotInOrder => Status::NotInOrder,
         }
     }
 }
@@ -147,6 +149,21 @@ fn serve_dis<S: Source, K: Sink>(alloc: Global, input: &mut S, out: &mut K) -> V
     }
 }
 
+/// Reads a log and writes the verdict on its order.
+fn serve_check<S: Source, K: Sink>(alloc: Global, input: &mut S, out: &mut K) -> Verdict
+    ensures serves { OfInput (S.left input.old) (λ bytes. Checked bytes (K.held out.old) (K.held out.new) result) }
+    ensures usage { result ≢ Verdict.Usage }
+    ensures unchanged { HasNoText (status_of_verdict result) → out.new ≡ out.old }
+    ensures read_fault { result ≡ Verdict.ReadFault → Rose (S.faults input.old) (S.faults input.new) }
+    ensures write_fault { result ≡ Verdict.WriteFault → Rose (K.faults out.old) (K.faults out.new) }
+    ensures end { HasText (status_of_verdict result) → IsAtEnd (S.left input.new) }
+{
+    match read_input(alloc, input) {
+        Ok(text) => write_verdict(alloc, text, out),
+        Err(verdict) => verdict,
+    }
+}
+
 /// The file of a guest.
 fn guest(alloc: Global, seed: u64, size: u32) -> Result<Vec<u8>, AllocError>
     requires some { 1 ≤ size }
@@ -195,6 +212,7 @@ fn serve<S: Source, K: Sink>(
         Some(Task::Run(run)) => serve_run(alloc, &run, input, out),
         Some(Task::Asm) => serve_asm(alloc, input, out),
         Some(Task::Dis) => serve_dis(alloc, input, out),
+        Some(Task::Check) => serve_check(alloc, input, out),
         Some(Task::Gen { seed, size }) => serve_gen(alloc, seed, size, out),
     }
 }
@@ -211,9 +229,9 @@ fn tell<E: Sink>(err: &mut E, line: &[u8])
 ///
 /// The command `run` takes an ELF file and writes the log of its run on the machine of the words, or
 /// with `--brief` its summary; `asm` takes an assembly text and writes its ELF file; `dis` takes an ELF
-/// file and writes a line for each of its words; `gen` reads nothing and writes the ELF file of a guest.
-/// Until there are the checker and the threads, all other words are answered as those that are not in
-/// the form.
+/// file and writes a line for each of its words; `check` takes a log and writes whether its order is a
+/// memory order that obeys total store order; `gen` reads nothing and writes the ELF file of a guest.
+/// Until there are the threads, all other words are answered as those that are not in the form.
 pub fn t1_serial<S: Source, K: Sink, E: Sink>(
     alloc: Global,
     words: &[String],

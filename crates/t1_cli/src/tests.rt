@@ -1,5 +1,6 @@
 //! The serial command over devices in memory.
 
+mod checks;
 mod devices;
 mod guests;
 mod linked;

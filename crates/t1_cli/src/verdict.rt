@@ -16,4 +16,6 @@ pub enum Verdict {
     ReadFault,
     WriteFault,
     OutOfMemory,
+    /// An axiom of total store order fails.
+    NotInOrder,
 }

@@ -398,6 +398,7 @@ pub(crate) fn read_task(words: &[String]) -> Option<Task>
         Command::Asm => Some(Task::Asm),
         Command::Dis => Some(Task::Dis),
         Command::Gen { seed, size } => Some(Task::Gen { seed, size }),
-        Command::Live { config: _ } | Command::Check => None,
+        Command::Check => Some(Task::Check),
+        Command::Live { config: _ } => None,
     }
 }

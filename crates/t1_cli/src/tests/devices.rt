@@ -7,7 +7,7 @@ use std::test::Fail;
 use t1_io::{Failed, MemSink, Source};
 
 /// The log of its run.
-const LOG: &str = "t1log 1
+pub(super) const LOG: &str = "t1log 1
 config cores 1 strands 1 ram 65536 sets 1024 budget 10
 entry 0000000100
 m 0000000100 82102005c2702200c4582200b580200000000000000000000000000000000000

@@ -21,7 +21,7 @@ fn other_words_are_a_usage_fault(rt: HostRuntime) -> Result<(), Fail> {
         "run --size 1",
         "run --brief --brief",
         "live",
-        "check",
+        "check --brief",
         "gen --seed 1",
         "gen --seed 1 --size 4001",
     ];

@@ -1,0 +1,11 @@
+pub mod HexDigits
+pub mod Taking
+pub mod Numerals
+pub mod ItemTexts
+pub mod ListTexts
+pub mod CommitTexts
+pub mod ConsoleTexts
+pub mod ImageTexts
+pub mod Whole
+pub mod Words
+pub mod Printed

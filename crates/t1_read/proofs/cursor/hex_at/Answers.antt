@@ -1,0 +1,12 @@
+use Rattle.std.proofs.Common.{◌+◌, ◌*◌, ◌%◌, ◌^◌, refl, ap, arith}
+use Rattle.t1_read.proofs.HexDigits.{hex_start, hex_goes}
+use Rattle.t1_read.proofs.cursor.hex_at.Goals as goal
+
+pub loop-place-init : goal.loop-place-init
+loop-place-init c = λ _. hex_start c.args.text.now c.args.at
+
+pub loop-place-preserved : goal.loop-place-preserved
+loop-place-preserved c = λ few.
+    let here = c.loop-place.invariant (omega (arith, few)) in
+    let d = c.in-Some.ensures in
+    hex_goes c.args.text.now c.args.at c.loop-place.place c.loop-place.value c.in-Some.digit _ _ (omega (arith, few)) (omega (arith, c.requires, c.loop-place-test.true)) here refl d.0 d.1 (ap (λ n. (c.loop-place.value * 16 % 2 ^ 64 + n) % 2 ^ 64) c.from.ensures)

@@ -1,0 +1,14 @@
+use Rattle.std.proofs.Common.{◌≡◌, length}
+use Rattle.t1_event.specs.Items.{items_of}
+use Rattle.t1_log.specs.Texts.{lines_from}
+use Rattle.t1_log.specs.Log.{commit_line_of}
+use Rattle.t1_read.specs.Taken.{Reads}
+use Rattle.t1_read.specs.WellFormed.{AreGoodCommits}
+use Rattle.t1_read.proofs.reader.read_commits.Given as goal
+
+abbrev pub invariant-loop-index : goal.invariant-loop-index
+invariant-loop-index l = record {
+  good : AreGoodCommits l.cores (items_of l.traces) l.log;
+  count : length l.log ≡ l.index;
+  reads : Reads l.text l.initial.lines.at l.lines.at (lines_from commit_line_of 0 l.log);
+}

@@ -1,0 +1,204 @@
+//! Fields of a line, taken one after another.
+ghost use Rattle.std.specs.Prelude.{ℕ, ◌≡◌, ◌<◌, ◌≤◌, ◌+◌, ◌*◌, ◌-◌, ◌^◌, ◌&&◌, ◌⊎◌, ◌++◌, List, length, take, drop, get_or, decimal, true, false, IsTrue, IfSome, MatchBool, MatchOption};
+ghost use Rattle.t1_read.specs.Taken.{Reads, Takes};
+ghost use Rattle.t1_read.specs.Digits.{AreDigits};
+ghost use Rattle.t1_log.specs.Hex.{digit_of, hex_of};
+
+use itoa::Buffer;
+
+/// A place in a text, and what is known of the line that is being taken: whether it has its form so
+/// far, and whether its numbers are in their ranges.
+#[derive(Clone, Copy, Debug, PartialEq, Eq)]
+pub(crate) struct Cursor {
+    pub at: usize,
+    pub form: bool,
+    pub fits: bool,
+}
+
+impl Cursor {
+    pub(crate) fn new(at: usize) -> Cursor
+        ensures { result ≡ record { at = at; form = true; fits = true } }
+    {
+        Cursor {
+            at,
+            form: true,
+            fits: true,
+        }
+    }
+
+    /// Whether what is taken has its form and is in its ranges.
+    pub(crate) fn is_good(&self) -> bool
+        ensures { result ≡ (self.now.form && self.now.fits) }
+    {
+        self.form && self.fits
+    }
+
+    /// The line has another form.
+    pub(crate) fn no_form(&mut self)
+        ensures { self.new ≡ record { at = self.old.at; form = false; fits = self.old.fits } }
+    {
+        self.form = false;
+    }
+
+    /// A value is out of its range, unless this holds.
+    pub(crate) fn demand(&mut self, holds: bool)
+        ensures { self.new ≡ record { at = self.old.at; form = self.old.form; fits = self.old.fits && holds } }
+    {
+        self.fits = self.fits && holds;
+    }
+
+    /// The next byte, 0 at the end.
+    pub(crate) fn peek(&self, text: &[u8]) -> u8 {
+        if self.at < text.len() {
+            text[self.at]
+        } else {
+            0
+        }
+    }
+
+    /// Takes a word if it stands next.
+    pub(crate) fn takes(&mut self, text: &[u8], word: &[u8]) -> bool
+        ensures { MatchBool result (Takes text.now self.old self.new word.now) (self.new ≡ self.old) }
+    {
+        if stands(text, self.at, word) {
+            self.at += word.len();
+            true
+        } else {
+            false
+        }
+    }
+
+    /// Takes a word.
+    pub(crate) fn word(&mut self, text: &[u8], word: &[u8])
+        ensures { Takes text.now self.old self.new word.now }
+    {
+        if !self.takes(text, word) {
+            self.form = false;
+        }
+    }
+
+    /// Takes this number in decimal digits.
+    pub(crate) fn exactly(&mut self, text: &[u8], number: u64)
+        ensures { Takes text.now self.old self.new (decimal number) }
+    {
+        let mut buffer = Buffer::new();
+        self.word(text, buffer.format(number).as_bytes());
+    }
+
+    /// Takes a decimal number without leading zeros. Where it is above 4294967295 it is out of range,
+    /// and the greatest number of 32 bits stands for it.
+    pub(crate) fn number(&mut self, text: &[u8]) -> u32
+        ensures { Takes text.now self.old self.new (decimal result) }
+    {
+        let start = self.at;
+        let (value, end) = digits(text, start);
+        if !is_canonical(text, start, end) {
+            self.form = false;
+            return 0;
+        }
+        self.at = end;
+        if value > 4_294_967_295 {
+            self.fits = false;
+            return 4_294_967_295;
+        }
+        value as u32
+    }
+
+    /// Takes so many hexadecimal digits in small letters. Of more than 16 the low ones count.
+    pub(crate) fn hex(&mut self, text: &[u8], digits: usize) -> u64
+        ensures fits { digits ≤ 16 → result < 2 ^ (4 * digits) }
+        ensures takes { digits ≤ 16 → Takes text.now self.old self.new (hex_of digits result) }
+    {
+        let start = self.at;
+        if digits > text.len().saturating_sub(start) {
+            self.form = false;
+            return 0;
+        }
+        match hex_at(text, start, digits) {
+            Some(value) => {
+                self.at = start + digits;
+                value
+            }
+            None => {
+                self.form = false;
+                0
+            }
+        }
+    }
+}
+
+/// Whether a word stands at a place.
+fn stands(text: &[u8], at: usize, word: &[u8]) -> bool
+    ensures stands { IsTrue result → Reads text.now at (at + length word.now) word.now }
+    ensures within { IsTrue result → at + length word.now ≤ length text.now }
+{
+    if at > text.len() {
+        return false;
+    }
+    match after(text.split_at(at).1, word) {
+        Some(_rest) => true,
+        None => false,
+    }
+}
+
+/// What follows a word, if a text begins with it.
+fn after<'a>(text: &'a [u8], word: &[u8]) -> Option<&'a [u8]>
+    ensures { MatchOption result ((rest : List ℕ) → text.now ≡ word.now ++ rest → ⊥) (λ rest. text.now ≡ word.now ++ rest.now) }
+{
+    text.strip_prefix(word)
+}
+
+/// The number of the decimal digits from a place on, or the greatest of 64 bits, and where they end.
+fn digits(text: &[u8], start: usize) -> (u64, usize)
+    ensures after { start ≤ result.1 }
+    ensures digits { AreDigits text.now start result.1 result.0 }
+{
+    let mut value: u64 = 0;
+    for at in start..text.len() {
+        if !text[at].is_ascii_digit() {
+            return (value, at);
+        }
+        value = value
+            .saturating_mul(10)
+            .saturating_add(u64::from(text[at].saturating_sub(b'0')));
+    }
+    (value, text.len().max(start))
+}
+
+/// Whether there are digits there, and no leading zero.
+fn is_canonical(text: &[u8], start: usize, end: usize) -> bool
+    ensures { IsTrue result → (start < end) × (start < length text.now) × ((get_or text.now start 0 ≡ 48 → ⊥) ⊎ (end - start ≡ 1)) }
+{
+    if end <= start || start >= text.len() {
+        return false;
+    }
+    text[start] != b'0' || end - start == 1
+}
+
+/// The number of so many hexadecimal digits from a place on.
+fn hex_at(text: &[u8], at: usize, digits: usize) -> Option<u64>
+    requires { digits ≤ length text.now - at }
+    ensures { IfSome result (λ value. digits ≤ 16 → (value < 2 ^ (4 * digits)) × (take digits (drop at text.now) ≡ hex_of digits value)) }
+{
+    let mut value: u64 = 0;
+    for place in 0..digits {
+        match digit_value(text[at + place]) {
+            Some(digit) => value = value.wrapping_mul(16).wrapping_add(u64::from(digit)),
+            None => return None,
+        }
+    }
+    Some(value)
+}
+
+/// The value of a hexadecimal digit in small letters.
+fn digit_value(byte: u8) -> Option<u8>
+    ensures { IfSome result (λ digit. (digit < 16) × (byte ≡ digit_of digit)) }
+{
+    if byte.is_ascii_digit() {
+        Some(byte - b'0')
+    } else if b'a' <= byte && byte <= b'f' {
+        Some(byte - b'a' + 10)
+    } else {
+        None
+    }
+}

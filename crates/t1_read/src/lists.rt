@@ -1,0 +1,80 @@
+//! The lines of the memory order and of the console.
+ghost use Rattle.std.specs.Prelude.{ℕ, ◌≡◌, ◌<◌, ◌≤◌, ◌++◌, length, IfSome, OnOk};
+ghost use Rattle.t1_log.specs.Hex.{hex_of_bytes};
+ghost use Rattle.t1_log.specs.Log.{console_line_of};
+ghost use Rattle.t1_log.specs.Lines.{place_line_of};
+ghost use Rattle.t1_read.specs.Taken.{Reads, Takes};
+ghost use Rattle.t1_read.specs.WellFormed.{IsGoodPlace};
+
+use crate::cursor::Cursor;
+use arrayvec::ArrayVec;
+use std::alloc::AllocError;
+use t1_elf::Listed;
+use t1_event::Place;
+
+/// Takes the line of a place of the memory order, of a strand that there is.
+#[tactic(auto, unfolding(t1_log::specs::Lines::place_line_of))]
+pub(crate) fn take_place(cursor: &mut Cursor, text: &[u8], strands: usize) -> Option<Place>
+    requires { strands ≤ 256 }
+    ensures good { IfSome result (IsGoodPlace strands) }
+    ensures reads { IfSome result (λ place. Reads text.now cursor.old.at cursor.new.at (place_line_of place)) }
+{
+    cursor.word(text, b"o ");
+    let strand = cursor.number(text);
+    cursor.word(text, b" ");
+    let item = cursor.number(text);
+    cursor.word(text, b"\n");
+    if strand as usize >= strands {
+        cursor.demand(false);
+        return None;
+    }
+    if cursor.is_good() {
+        Some(Place {
+            strand: strand as u8,
+            item,
+        })
+    } else {
+        None
+    }
+}
+
+/// Takes some bytes, each in two digits, up to 32 or to a line feed.
+fn take_run(cursor: &mut Cursor, text: &[u8]) -> ArrayVec<u8, 32>
+    ensures some { 1 ≤ length result.items }
+    ensures few { length result.items ≤ 32 }
+    ensures takes { Takes text.now cursor.old cursor.new (hex_of_bytes result.items) }
+{
+    let mut bytes = ArrayVec::new();
+    for count in 0..32usize {
+        if count != 0 {
+            if cursor.peek(text) == b'\n' {
+                return bytes;
+            }
+        }
+        bytes.push(cursor.hex(text, 2) as u8);
+    }
+    bytes
+}
+
+/// Takes the line of some of the console's bytes, 1 to 32.
+#[tactic(auto, unfolding(t1_log::specs::Log::console_line_of))]
+pub(crate) fn take_console(cursor: &mut Cursor, text: &[u8]) -> ArrayVec<u8, 32>
+    ensures some { 1 ≤ length result.items }
+    ensures few { length result.items ≤ 32 }
+    ensures takes { Takes text.now cursor.old cursor.new (console_line_of 0 result.items) }
+{
+    cursor.word(text, b"k ");
+    let bytes = take_run(cursor, text);
+    cursor.word(text, b"\n");
+    bytes
+}
+
+/// Appends bytes.
+pub(crate) fn append(console: &mut Listed<u8>, bytes: &[u8]) -> Result<(), AllocError>
+    ensures { OnOk result (console.new ≡ console.old ++ bytes.now) }
+{
+    for at in 0..bytes.len() {
+        console.push(bytes[at])?;
+    }
+    Ok(())
+}

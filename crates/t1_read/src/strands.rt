@@ -1,0 +1,71 @@
+//! The lines of strands.
+ghost use Rattle.std.specs.Prelude.{ℕ, ◌≡◌, ◌≤◌, length, All, IfOk};
+ghost use Rattle.t1_log.specs.Texts.{lines_from};
+ghost use Rattle.t1_log.specs.Log.{trace_lines_of};
+ghost use Rattle.t1_read.specs.Taken.{Reads};
+ghost use Rattle.t1_read.specs.Items.{IsGoodTrace};
+
+use crate::error::LogError;
+use crate::item::{take_end, take_item};
+use crate::reader::Lines;
+use std::alloc::Global;
+use t1_elf::Listed;
+use t1_event::Trace;
+
+/// Reads the lines of a strand: its items, and its end.
+fn read_strand(
+    alloc: Global,
+    lines: &mut Lines,
+    text: &[u8],
+    strand: u64,
+    ram: u64,
+) -> Result<Trace, LogError>
+    requires { length text.now ≤ 67108864 }
+    ensures good { IfOk result (IsGoodTrace ram) }
+    ensures reads { IfOk result (λ trace. Reads text.now lines.old.at lines.new.at (trace_lines_of strand trace)) }
+{
+    let mut items = Listed::new(alloc);
+    for number in 0..text.len() as u64 {
+        let mut cursor = lines.next();
+        if cursor.peek(text) != b'i' {
+            break;
+        }
+        match take_item(&mut cursor, text, strand, number, ram) {
+            Some(item) => items.push(item)?,
+            None => return Err(lines.fault(text, cursor)),
+        }
+        lines.went(cursor);
+    }
+    let mut cursor = lines.next();
+    match take_end(&mut cursor, text, strand) {
+        Some(end) => {
+            lines.went(cursor);
+            Ok(Trace {
+                items,
+                units: end.units,
+                pc: end.pc,
+                ending: Some(end.ending),
+            })
+        }
+        None => Err(lines.fault(text, cursor)),
+    }
+}
+
+/// Reads the lines of so many strands, in order.
+pub(crate) fn read_strands(
+    alloc: Global,
+    lines: &mut Lines,
+    text: &[u8],
+    strands: u64,
+    ram: u64,
+) -> Result<Listed<Trace>, LogError>
+    requires { length text.now ≤ 67108864 }
+    ensures good { IfOk result (λ traces. All (IsGoodTrace ram) traces × (length traces ≡ strands)) }
+    ensures reads { IfOk result (λ traces. Reads text.now lines.old.at lines.new.at (lines_from trace_lines_of 0 traces)) }
+{
+    let mut traces = Listed::new(alloc);
+    for strand in 0..strands {
+        traces.push(read_strand(alloc, lines, text, strand, ram)?)?;
+    }
+    Ok(traces)
+}
