@@ -1,5 +1,5 @@
--- A machine that is over: its traces and log are a joint history, which can be listed by keys.
-use Rattle.std.proofs.Common.{◌≡◌, ℕ, zero, suc, ◌*◌, ◌<◌, ◌≤◌, List, [], ◌∷◌, length, get_or, Some, refl, ap, ◌∙◌, subst, arith}
+-- A machine whose cores are over: its traces and log are a joint history, which can be listed by keys.
+use Rattle.std.proofs.Common.{◌≡◌, ℕ, zero, suc, ◌*◌, ◌<◌, ◌≤◌, true, List, [], ◌∷◌, length, get_or, Some, refl, ap, ◌∙◌, subst, arith}
 use Rattle.std.specs.Prelude.{All}
 use Rattle.std.specs.List.{slice_get, count_by}
 use Rattle.std.proofs.lemmas.List.{length-map}
@@ -20,6 +20,8 @@ use Rattle.t1_fit.proofs.History.{fitting_parts_are_history}
 use Rattle.t1_order.specs.Orderable.{AreShort, accesses_in}
 use Rattle.t1_order.proofs.Joint.{joint_are_orderable}
 use Rattle.t1_bound.proofs.Units.{reg_units}
+use Rattle.t1_core.specs.Steps.{CoreState}
+use Rattle.t1_core.specs.Ends.{finished_of}
 use Rattle.t1_machine.specs.Machine.{MachineState}
 use Rattle.t1_machine.specs.Start.{IsRunnable, setup_of, most_commits}
 use Rattle.t1_machine_rule.specs.Kept.{Kept}
@@ -41,14 +43,14 @@ trace_there (t ∷ traces) zero P none some = some t refl
 trace_there (t ∷ traces) (suc k) P none some = trace_there traces k P none some
 
 module _ (config : Config) (image : Image) (runs : IsRunnable (setup_of config image)) (bytes : AreBytes image.ram) (m : MachineState) (g : Kept (setup_of config image) m)
-    (short : length m.xbar.log ≤ 4294967295) (over : IsOver (setup_of config image) m) where
+    (short : length m.xbar.log ≤ 4294967295) (done : (c : ℕ) (core : CoreState) → slice_get m.cores c ≡ Some core → finished_of core ≡ true) where
   abbrev w : Setup
   w = setup_of config image
 
   pub history : IsJointHistory w (traces_in m.cores) m.xbar.log
   history =
       subst (λ (traces : List Trace). IsJointHistory w traces m.xbar.log) (traces_are config image runs bytes m g short)
-      (fitting_parts_are_history w (parts config image runs bytes m g short) (setup config image runs bytes m g short) (fits config image runs bytes m g short) (over_parts config image runs bytes m g short over))
+      (fitting_parts_are_history w (parts config image runs bytes m g short) (setup config image runs bytes m g short) (fits config image runs bytes m g short) (over_parts config image runs bytes m g short done))
 
   -- each trace has two items at most for each unit of the budget
   pub items_few : (strand : ℕ) (trace : Trace) → slice_get (traces_in m.cores) strand ≡ Some trace → length trace.items ≤ 2 * config.budget
@@ -75,7 +77,7 @@ module _ (config : Config) (image : Image) (runs : IsRunnable (setup_of config i
   pub count_few : length (traces_in m.cores) ≤ 32
   count_few = (let e = count_is in let l = mul-le config.cores config.strands 8 4 runs.few_cores runs.few_strands in omega (arith, e, l))
 
-  accesses_few : accesses_in (items_of (traces_in m.cores)) ≤ most_commits config
+  pub accesses_few : accesses_in (items_of (traces_in m.cores)) ≤ most_commits config
   accesses_few =
       let xs : List (List Item) = items_of (traces_in m.cores) in
       let each : All (λ (items : List Item). count_by (λ (item : Item). is_access item.kind) items ≤ 2 * config.budget) xs = λ k d within.
@@ -91,8 +93,8 @@ module _ (config : Config) (image : Image) (runs : IsRunnable (setup_of config i
       default (x ∷ xs) zero d l = refl
       default (x ∷ xs) (suc k) d l = default xs k d (omega (arith, l))
 
-  pub ends : Ends w m
-  ends =
+  pub ends : IsOver w m → Ends w m
+  ends over =
       let few : length (items_of (traces_in m.cores)) ≤ 64 = (let e = length-map (traces_in m.cores) (λ (t : Trace). t.items) in let l = count_few in omega (arith, e, l)) in
       record {
         over = over;

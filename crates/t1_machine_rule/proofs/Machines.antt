@@ -41,16 +41,16 @@ pub none_is_left : NoSlotIsLeft
 none_is_left w m r over = no_slot_is_left w m (kept_run w m r) over
 
 pub end_in_histories : MachinesEndInJointHistories
-end_in_histories = of_machine (λ w m. Ends w m) (λ config image m runs bytes g short none. ends config image runs bytes m g short (idle_is_over config image runs bytes m g short none))
+end_in_histories = of_machine (λ w m. Ends w m) (λ config image m runs bytes g short none. let over = idle_is_over config image runs bytes m g short none in ends config image runs bytes m g short over.cores over)
 
 pub reports_obey : ReportsObeyTso
 reports_obey w m order r none keys =
     of_machine (λ w m. IsOrderByKeys (items_of (traces_in m.cores)) order → Reports w m order)
     (λ config image m runs bytes g short none keys.
     let over = idle_is_over config image runs bytes m g short none in
-    let obeys = history_obeys_tso (setup_of config image) (traces_in m.cores) m.xbar.log order (history config image runs bytes m g short over) keys in
+    let obeys = history_obeys_tso (setup_of config image) (traces_in m.cores) m.xbar.log order (history config image runs bytes m g short over.cores) keys in
     record {
       listing = obeys.0;
       tso = obeys.1;
-      printable = λ entry. report_text config image runs bytes m g short over order entry;
+      printable = λ entry. report_text config image runs bytes m g short over.cores order entry;
     }) w m r none keys

@@ -1,4 +1,4 @@
--- A machine that is over: its parts are over, and its traces are those of its parts.
+-- A machine whose cores are over: its parts are over, and its traces are those of its parts.
 use Rattle.std.proofs.Common.{◌≡◌, ℕ, zero, suc, ◌+◌, ◌≤◌, true, List, [], ◌∷◌, ◌++◌, length, map, Option, Some, None, refl, ap, ◌∙◌, subst, inl, inr, ◌⊎◌, arith}
 use Rattle.std.specs.List.{slice_get}
 use Rattle.t1_num.specs.MemoryLaws.{AreBytes}
@@ -19,7 +19,6 @@ use Rattle.t1_machine.specs.Machine.{MachineState}
 use Rattle.t1_machine.specs.Start.{IsRunnable, setup_of}
 use Rattle.t1_machine_rule.specs.Kept.{history_at, Kept}
 use Rattle.t1_machine_rule.specs.Parts.{core_part, traces_in}
-use Rattle.t1_machine_rule.specs.Ends.{IsOver}
 use Rattle.t1_machine_rule.proofs.Lists.{slice_parts}
 use Rattle.t1_machine_rule.proofs.Fits.{parts, there, at_history}
 
@@ -82,8 +81,8 @@ module _ (config : Config) (image : Image) (runs : IsRunnable (setup_of config i
       flat_is m.cores (λ c. core_part T1 (history_at w g.calls c) (slice_get m.cores c)) 0 config.cores g.parts.cores
       (λ i. part_traces (history_at w g.calls (0 + i)) (slice_get m.cores (0 + i)) ∙ ap (λ (k : ℕ). traces_or (slice_get m.cores k)) (let z : 0 + i ≡ i = omega arith in z))
 
-  pub over_parts : IsOver w m → AreOver w (parts config image runs bytes m g short)
-  over_parts over c s lc ls =
+  pub over_parts : ((c : ℕ) (core : CoreState) → slice_get m.cores c ≡ Some core → finished_of core ≡ true) → AreOver w (parts config image runs bytes m g short)
+  over_parts done c s lc ls =
       let x = there config image runs bytes m g short c lc in
-      let done : finished_of (history_at w g.calls c).core ≡ true = subst (λ (k : CoreState). finished_of k ≡ true) (g.cores c x.0 x.1) (over.cores c x.0 x.1) in
-      at_history config image runs bytes m g short c (λ (p : CorePart). HasEnded p s) lc ((finished_cores_have_ended w c (g.calls c) runs.blocks).0 done s ls)
+      let finished : finished_of (history_at w g.calls c).core ≡ true = subst (λ (k : CoreState). finished_of k ≡ true) (g.cores c x.0 x.1) (done c x.0 x.1) in
+      at_history config image runs bytes m g short c (λ (p : CorePart). HasEnded p s) lc ((finished_cores_have_ended w c (g.calls c) runs.blocks).0 finished s ls)

@@ -1,5 +1,5 @@
--- The report of a machine that is over has a text.
-use Rattle.std.proofs.Common.{◌≡◌, ℕ, zero, suc, ◌*◌, ◌^◌, ◌<◌, ◌≤◌, List, [], ◌∷◌, length, get_or, Option, Some, None, refl, ap, sym, ◌∙◌, subst, inl, inr, arith}
+-- The report of a machine whose cores are over has a text.
+use Rattle.std.proofs.Common.{◌≡◌, ℕ, zero, suc, ◌*◌, ◌^◌, ◌<◌, ◌≤◌, true, List, [], ◌∷◌, length, get_or, Option, Some, None, refl, ap, sym, ◌∙◌, subst, inl, inr, arith}
 use Rattle.std.specs.Prelude.{All}
 use Rattle.std.specs.List.{slice_get}
 use Rattle.std.proofs.lemmas.Option.{slice_get-get_or}
@@ -29,11 +29,12 @@ use Rattle.t1_joint.specs.Parts.{served_at}
 use Rattle.t1_fit.proofs.Lists.{slice_front}
 use Rattle.t1_fit.proofs.Logs.{at_log}
 use Rattle.t1_core.specs.Steps.{CoreState}
+use Rattle.t1_core.specs.Ends.{finished_of}
 use Rattle.t1_machine.specs.Machine.{MachineState}
 use Rattle.t1_machine.specs.Start.{IsRunnable, setup_of}
 use Rattle.t1_machine_rule.specs.Kept.{ever_served, Kept}
 use Rattle.t1_machine_rule.specs.Parts.{traces_in}
-use Rattle.t1_machine_rule.specs.Ends.{IsOver, report_of}
+use Rattle.t1_machine_rule.specs.Ends.{report_of}
 use Rattle.t1_machine_rule.proofs.Texts.{IsSmallEnding, trace_numbers, trace_ending}
 use Rattle.t1_machine_rule.proofs.Barriers.{AreBare, history_bare}
 use Rattle.t1_machine_rule.proofs.Rings.{dest_small}
@@ -69,7 +70,7 @@ ended_text ending.Spent l = tt
 ended_text (ending.Fault number) l = omega (arith, l)
 
 module _ (config : Config) (image : Image) (runs : IsRunnable (setup_of config image)) (bytes : AreBytes image.ram) (m : MachineState) (g : Kept (setup_of config image) m)
-    (short : length m.xbar.log ≤ 4294967295) (over : IsOver (setup_of config image) m) where
+    (short : length m.xbar.log ≤ 4294967295) (done : (c : ℕ) (core : CoreState) → slice_get m.cores c ≡ Some core → finished_of core ≡ true) where
   abbrev w : Setup
   w = setup_of config image
 
@@ -81,7 +82,7 @@ module _ (config : Config) (image : Image) (runs : IsRunnable (setup_of config i
 
   item_text : (s : ℕ) (trace : Trace) (k : ℕ) (x : Item) → slice_get (traces_in m.cores) s ≡ Some trace → slice_get trace.items k ≡ Some x → HasText x
   item_text s trace k x is has =
-      let j = history config image runs bytes m g short over in
+      let j = history config image runs bytes m g short done in
       let f = (j.table s trace is).follows in
       let shaped : IsAccess x.kind → IsShaped config.ram x = λ a. items_shaped (bounds_in config) (start_in config image.entry s) trace k x runs.blocks f has a in
       let numbers = trace_numbers (bounds_in config) (start_in config image.entry s) trace k x f has in
@@ -100,10 +101,10 @@ module _ (config : Config) (image : Image) (runs : IsRunnable (setup_of config i
 
   trace_text : (s : ℕ) (trace : Trace) → slice_get (traces_in m.cores) s ≡ Some trace → IsPrintableTrace trace
   trace_text s trace is =
-      let h = (history config image runs bytes m g short over).table s trace is in
+      let h = (history config image runs bytes m g short done).table s trace is in
       record {
         items = all_from HasText trace.items (λ k x has. item_text s trace k x is has);
-        count = (let a = items_few config image runs bytes m g short over s trace is in let b = budget_small config image runs bytes m g short over in omega (arith, a, b));
+        count = (let a = items_few config image runs bytes m g short done s trace is in let b = budget_small config image runs bytes m g short done in omega (arith, a, b));
         ended = subst (λ (o : Option Ending). HasEnded o) (sym h.ended) (ended_text h.ending (trace_ending (bounds_in config) (start_in config image.entry s) trace h.ending h.follows h.ended));
       }
 
@@ -130,8 +131,8 @@ module _ (config : Config) (image : Image) (runs : IsRunnable (setup_of config i
     blocks = (let e = runs.image in let b = runs.blocks in omega (arith, e, b));
     image = (let e = runs.image in let l = runs.few_bytes in omega (arith, e, l));
     traces = all_from IsPrintableTrace (traces_in m.cores) (λ s trace is. trace_text s trace is);
-    number = count_is config image runs bytes m g short over;
-    strands = (let l = count_few config image runs bytes m g short over in omega (arith, l));
+    number = count_is config image runs bytes m g short done;
+    strands = (let l = count_few config image runs bytes m g short done in omega (arith, l));
     log = all_from IsPrintableCommit m.xbar.log (λ n c is. commit_text n c is);
     commits = omega (arith, short);
   }
