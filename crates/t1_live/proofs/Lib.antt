@@ -1,0 +1,10 @@
+pub mod Cores
+pub mod Destinations
+pub mod Posting
+pub mod Crossings
+pub mod Fitting
+pub mod Tied
+pub mod Wiring
+pub mod Machines
+pub mod Ends
+pub mod Begins

@@ -1,0 +1,9 @@
+pub mod Posts
+pub mod Rules
+pub mod Sides
+pub mod Wires
+pub mod Whole
+pub mod Tying
+pub mod Rooms
+pub mod Reports
+pub mod Starts

@@ -1,0 +1,179 @@
+//! The agent of a destination.
+ghost use Rattle.std.specs.Prelude.{◌≡◌, ◌+◌, ◌<◌, ◌++◌, ◌∷◌, [], OnOk, true, IfOk};
+ghost use Rattle.t1_shape.specs.Shapes.Shape.{T1};
+ghost use Rattle.t1_shape.specs.Numbers.{destinations};
+ghost use Rattle.t1_machine.specs.Start.{IsRunnable, setup_of};
+ghost use Rattle.t1_live.specs.Rules.{served_with, bank_after_one, IsBank};
+ghost use Rattle.t1_live.specs.Sides.{destination_id, is_over};
+
+use crate::numbers::{FIRST_DESTINATION, cores_of};
+use std::alloc::{AllocError, Global};
+use std::marker::Model;
+use std::snapshot::Snapshot;
+use t1_bank::Bank;
+use t1_crew::{Agent, Flags, Turned};
+use t1_elf::Image;
+use t1_event::Config;
+use t1_iob::serve_io;
+use t1_packet::{Request, Served};
+use t1_ring::row::pop_any;
+use t1_ring::{Rx, Tx};
+
+/// A destination, a bank or the I/O bridge, with the receiving ends of its requests, one from each
+/// core, and the sending end of what it serves.
+#[derive(Drop)]
+pub struct DestinationAgent {
+    config: Config,
+    image: Snapshot<Image>,
+    dest: u8,
+    bank: Option<Bank>,
+    next: usize,
+    pub(crate) requests: Vec<Rx<Request>>,
+    pub(crate) served: Tx<Served>,
+}
+
+impl Model for DestinationAgent {
+    ghost use Rattle.std.specs.Prelude.{[], ◌∷◌};
+    ghost use Rattle.t1_machine.specs.Start.{setup_of};
+    ghost use Rattle.t1_ring.specs.Row.{received_by, rx_marks};
+    ghost use Rattle.t1_live.specs.Rules.{IsDestinationSide};
+    ghost use Rattle.t1_live.specs.Sides.{DestinationSide};
+
+    ghost Value = { DestinationSide };
+
+    ghost view = { λ a. record {
+      setup = setup_of a.config a.image.value;
+      dest = a.dest;
+      bank = a.bank;
+      received = received_by a.requests.items;
+      served = a.served.sent;
+      to = a.served.mark ∷ [];
+      from = rx_marks a.requests.items;
+    } };
+
+    ghost invariant = { λ a. IsDestinationSide (setup_of a.config a.image.value) a.dest a.bank (received_by a.requests.items) a.served.sent };
+}
+
+/// What came of trying to serve.
+enum Service {
+    Served,
+    NoRequest,
+    NoRoom,
+}
+
+/// A bank serves a request, or the I/O bridge does.
+fn serve_at(bank: &mut Option<Bank>, request: Request) -> Served
+    ensures served { result ≡ served_with bank.old request }
+    ensures after { bank.new ≡ bank_after_one bank.old request }
+{
+    match bank {
+        Some(bank) => bank.serve(request),
+        None => serve_io(request),
+    }
+}
+
+/// The bank of a destination, or none for the I/O bridge, which is the last.
+fn bank_of(
+    alloc: Global,
+    config: &Config,
+    image: &Image,
+    dest: u8,
+) -> Result<Option<Bank>, AllocError>
+    requires runs { IsRunnable (setup_of config.now image.now) }
+    requires dest { dest < destinations T1 }
+    ensures { IfOk result (λ bank. IsBank (setup_of config.now image.now) dest [] bank) }
+{
+    if dest == 4 {
+        return Ok(None);
+    }
+    let bank = Bank::new(alloc, dest, config, image.ram.as_slice())?;
+    Ok(Some(bank))
+}
+
+impl DestinationAgent {
+    /// A destination at its start, to which no core sends yet.
+    pub(crate) fn new(
+        alloc: Global,
+        config: &Config,
+        image: &Image,
+        dest: u8,
+        served: Tx<Served>,
+    ) -> Result<DestinationAgent, AllocError>
+        requires runs { IsRunnable (setup_of config.now image.now) }
+        requires dest { dest < destinations T1 }
+        requires none { served.sent ≡ [] }
+        ensures none { IfOk result (λ a. a.served ≡ []) }
+        ensures id { IfOk result (λ a. destination_id a ≡ record { setup = setup_of config.now image.now; number = 8 + dest; to = served.mark ∷ []; from = [] }) }
+    {
+        let bank = bank_of(alloc, config, image, dest)?;
+        Ok(DestinationAgent {
+            config: *config,
+            image: Snapshot::of(image),
+            dest,
+            bank,
+            next: 0,
+            requests: Vec::new(alloc),
+            served,
+        })
+    }
+
+    /// One more core sends to it.
+    pub(crate) fn add(&mut self, end: Rx<Request>) -> Result<(), AllocError>
+        requires { end.received ≡ [] }
+        ensures served { self.new.served ≡ self.old.served }
+        ensures id { OnOk result (destination_id self.new ≡ record (destination_id self.old) { from = self.old.from ++ end.mark ∷ [] }) }
+    {
+        self.requests.push(end)?;
+        Ok(())
+    }
+
+    /// Serves one request, if one is known and there is room for what is served. The cores are tried in
+    /// a circle from one past the core that was served last.
+    fn serve(&mut self) -> Service
+        ensures { destination_id self.new ≡ destination_id self.old }
+    {
+        if self.served.room() == 0 {
+            return Service::NoRoom;
+        }
+        let Some(found) = pop_any(&mut self.requests, self.next) else {
+            return Service::NoRequest;
+        };
+        let (core, request) = found;
+        self.next = core + 1;
+        let served = serve_at(&mut self.bank, request);
+        match self.served.push(served) {
+            Ok(()) => {}
+            Err(_) => unreachable!(),
+        }
+        Service::Served
+    }
+}
+
+impl Agent for DestinationAgent {
+    ghost use Rattle.t1_live.specs.Sides.{destination_id, is_over};
+
+    ghost id = { destination_id };
+
+    ghost over = { is_over };
+
+    fn number(&self) -> u8 {
+        FIRST_DESTINATION + self.dest
+    }
+
+    /// Serves a request. A destination ends where all cores were done before it knew of no request.
+    fn turn(&mut self, flags: &Flags) -> Turned
+        ensures same { destination_id self.new ≡ destination_id self.old }
+        ensures over { result ≡ Turned.Ended → is_over self.new ≡ true }
+    {
+        let done = flags.are_done(cores_of(self.config.cores));
+        match self.serve() {
+            Service::Served => Turned::Worked,
+            Service::NoRequest if done => {
+                flags.say_ended(FIRST_DESTINATION + self.dest);
+                Turned::Ended
+            }
+            Service::NoRequest => Turned::Idle,
+            Service::NoRoom => Turned::Idle,
+        }
+    }
+}
