@@ -15,7 +15,7 @@ use Rattle.t1_event.specs.declared.commit.Commit.{Commit}
 use Rattle.t1_elf.specs.declared.object.Image.{Image}
 use Rattle.t1_joint.specs.Lists.{IsIn, IsPrefix}
 use Rattle.t1_joint.specs.Start.{Setup}
-use Rattle.t1_joint.specs.Parts.{Parts, posts_from, served_at}
+use Rattle.t1_joint.specs.Parts.{CorePart, Parts, posts_from, served_at}
 use Rattle.t1_joint.specs.CoreRule.{IsCore}
 use Rattle.t1_joint.specs.Fit.{log_of, IsCrossbar, IsDestination, IsNoCore, Fit}
 use Rattle.t1_fit.proofs.Lists.{slice_front}
@@ -102,6 +102,61 @@ pub crossbar_here : (w : Setup) (cores dests : List Id) (crossbar : CrossbarSide
     → IsCrossbarSide w crossbar.xbar crossbar.held crossbar.received crossbar.posted
 crossbar_here w cores dests crossbar wired k = subst (λ (v : Setup). IsCrossbarSide v crossbar.xbar crossbar.held crossbar.received crossbar.posted) wired.crossbar_is k
 
+-- ---- the rule of a core, of its own state and ends
+
+with_sent : (w : Setup) (c : ℕ) (p : CorePart) (before now : ℕ → List RequestData) → before ≡ now → IsCore w c (record p { sent = before }) → IsCore w c (record p { sent = now })
+with_sent w c p before now e k = subst (λ (s : ℕ → List RequestData). IsCore w c (record p { sent = s })) e k
+
+core_rule_in : (config : Config) (image : Image) (side : CoreSide) → IsCoreSide (setup_of config image) side.number side.core side.sent side.received
+    → IsCore (setup_of config image) side.number (core_part (Some side))
+core_rule_in config image side k =
+    with_sent (setup_of config image) side.number (part_of T1 (record { core = side.core; received = side.received; sent = [] })) (λ d. sent_to T1 d k.requests) (λ d. get_or side.sent d [])
+    (fun_ext (λ d. sym (k.each d)))
+    (history_rule (setup_of config image) side.number (record { core = side.core; received = side.received; sent = k.requests }) k.runs.blocks k.runs.some_units k.history)
+
+pub core_rule : (w : Setup) (side : CoreSide) → IsCoreSide w side.number side.core side.sent side.received → IsCore w side.number (core_part (Some side))
+core_rule w side k = by w.shape w.config w.image k
+  where
+    by : (shape : Shape) (config : Config) (image : Image) → let w : Setup = record { shape = shape; config = config; image = image } in
+        IsCoreSide w side.number side.core side.sent side.received → IsCore w side.number (core_part (Some side))
+    by T1 config image k = core_rule_in config image side k
+
+-- ---- the rule of the crossbar
+
+module _ (config : Config) (image : Image) (crossbar : CrossbarSide) (k : IsCrossbarSide (setup_of config image) crossbar.xbar crossbar.held crossbar.received crossbar.posted) where
+  own : ((d i : ℕ) (a : Served) → slice_get (get_or crossbar.received d []) i ≡ Some a → op_dest T1 a.request.op ≡ d) → AreOwn k.admissions
+  own named x h =
+      let at = come_in x.dest k.admissions x h refl in
+      named x.dest at.0 x.access (subst (λ (l : List Served). slice_get l at.0 ≡ Some x.access) (k.came x.dest) (slice_front (come_from x.dest k.admissions) _ at.0 x.access at.1))
+
+  posts_are : (c : ℕ) → get_or crossbar.posted c (posts_from c 0 (accesses_of k.admissions)) ≡ posts_from c 0 (accesses_of k.admissions)
+  posts_are c =
+      let ends = k.all_ends in
+      elim (cases_lt c (length crossbar.posted)) [
+        | inl l ↦ within_any crossbar.posted c (posts_from c 0 (accesses_of k.admissions)) [] l ∙ k.posts c (omega (arith, l, ends))
+        | inr past ↦ get_or_past crossbar.posted c (posts_from c 0 (accesses_of k.admissions)) past
+      ]
+
+  log_here : AreOwn k.admissions → crossbar.xbar.log ≡ log_of (setup_of config image) (accesses_of k.admissions)
+  log_here o = k.log ∙ log_is (setup_of config image) k.admissions refl o
+
+  crossbar_rule_in : IsCrossbar (setup_of config image) (crossbar_part crossbar k.admissions)
+  crossbar_rule_in = record {
+    short = k.short;
+    rule = λ named.
+        let o = own named in
+        record { log = log_here o; admits = λ d. (held_of (get_or crossbar.held d None), ap (λ (l : List Served). l ++ held_of (get_or crossbar.held d None)) (served_is d k.admissions o) ∙ k.came d) };
+    seen = k.seen;
+    posts = posts_are;
+  }
+
+pub crossbar_rule : (w : Setup) (side : CrossbarSide) (k : IsCrossbarSide w side.xbar side.held side.received side.posted) → IsCrossbar w (crossbar_part side k.admissions)
+crossbar_rule w side k = by w.shape w.config w.image k
+  where
+    by : (shape : Shape) (config : Config) (image : Image) → let w : Setup = record { shape = shape; config = config; image = image } in
+        (k : IsCrossbarSide w side.xbar side.held side.received side.posted) → IsCrossbar w (crossbar_part side k.admissions)
+    by T1 config image k = crossbar_rule_in config image side k
+
 -- ---- the parts
 
 module _ (config : Config) (image : Image) (cores : List CoreSide) (dests : List DestinationSide) (crossbar : CrossbarSide)
@@ -178,12 +233,10 @@ module _ (config : Config) (image : Image) (cores : List CoreSide) (dests : List
   core_is c l =
       let x = slice_there cores c (omega (arith, l, full)) in
       let side : CoreSide = x.0 in
-      let h = core_here w cores _ _ wired c side x.1 (core_keeps c side x.1) in
-      let rule : IsCore w c (part_of T1 (record { core = side.core; received = side.received; sent = h.requests })) =
-      history_rule w c (record { core = side.core; received = side.received; sent = h.requests }) h.runs.blocks h.runs.some_units h.history in
-      let sent : (λ (d : ℕ). sent_to T1 d h.requests) ≡ (λ (d : ℕ). get_or side.sent d []) = fun_ext (λ d. sym (h.each d)) in
+      let at = wired.core_is c (core_id side) (id_there core_id cores c side x.1) in
+      let rule : IsCore side.setup side.number (core_part (Some side)) = core_rule side.setup side (core_keeps c side x.1) in
       subst (λ (o : Option CoreSide). IsCore w c (core_part o)) (sym x.1)
-      (subst (λ (s : ℕ → List RequestData). IsCore w c (record (part_of T1 (record { core = side.core; received = side.received; sent = [] })) { sent = s })) sent rule)
+      (subst (λ (v : Setup). IsCore v c (core_part (Some side))) at.0 (subst (λ (n : ℕ). IsCore side.setup n (core_part (Some side))) at.1 rule))
 
   no_core : (c : ℕ) → config.cores ≤ c → IsNoCore (core_part (slice_get cores c))
   no_core c l = subst (λ (o : Option CoreSide). IsNoCore (core_part o)) (sym (core_none cores c (omega (arith, l, full)))) (record { traces = refl; sent = λ d. refl })
@@ -199,41 +252,13 @@ module _ (config : Config) (image : Image) (cores : List CoreSide) (dests : List
         | inr past ↦ subst (λ (o : Option DestinationSide). IsDestination w d (destination_part o)) (sym (core_none dests d past)) (record { order = λ named c. refl; rule = tt })
       ]
 
-  -- ---- the crossbar
-
-  own : ((d i : ℕ) (a : Served) → slice_get (get_or crossbar.received d []) i ≡ Some a → op_dest T1 a.request.op ≡ d) → AreOwn k.admissions
-  own named x h =
-      let at = come_in x.dest k.admissions x h refl in
-      named x.dest at.0 x.access (subst (λ (l : List Served). slice_get l at.0 ≡ Some x.access) (k.came x.dest) (slice_front (come_from x.dest k.admissions) _ at.0 x.access at.1))
-
-  posts_are : (c : ℕ) → get_or crossbar.posted c (posts_from c 0 (accesses_of k.admissions)) ≡ posts_from c 0 (accesses_of k.admissions)
-  posts_are c =
-      let ends = k.all_ends in
-      elim (cases_lt c (length crossbar.posted)) [
-        | inl l ↦ within_any crossbar.posted c (posts_from c 0 (accesses_of k.admissions)) [] l ∙ k.posts c (omega (arith, l, ends))
-        | inr past ↦ get_or_past crossbar.posted c (posts_from c 0 (accesses_of k.admissions)) past
-      ]
-
-  log_here : AreOwn k.admissions → crossbar.xbar.log ≡ log_of w (accesses_of k.admissions)
-  log_here o = subst (λ (v : Setup). crossbar.xbar.log ≡ map (record_of v) k.admissions) wired.crossbar_is k.log ∙ log_is w k.admissions refl o
-
-  crossbar_is : IsCrossbar w (crossbar_part crossbar k.admissions)
-  crossbar_is = record {
-    short = k.short;
-    rule = λ named.
-        let o = own named in
-        record { log = log_here o; admits = λ d. (held_of (get_or crossbar.held d None), ap (λ (l : List Served). l ++ held_of (get_or crossbar.held d None)) (served_is d k.admissions o) ∙ k.came d) };
-    seen = k.seen;
-    posts = posts_are;
-  }
-
   pub fits : Fit w parts
   fits = record {
     rings = record { to_destination = to_destination; to_crossbar = to_crossbar; to_core = to_core };
     cores = core_is;
     no_cores = no_core;
     destinations = destination_is;
-    crossbar = crossbar_is;
+    crossbar = subst (λ (v : Setup). IsCrossbar v (crossbar_part crossbar k.admissions)) wired.crossbar_is (crossbar_rule crossbar.setup crossbar k);
   }
 
 -- of any setup

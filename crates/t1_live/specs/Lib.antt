@@ -7,3 +7,4 @@ pub mod Tying
 pub mod Rooms
 pub mod Reports
 pub mod Starts
+pub mod Laws

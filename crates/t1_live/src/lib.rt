@@ -13,6 +13,7 @@ mod build;
 mod core_agent;
 mod crossbar_agent;
 mod destination_agent;
+pub mod laws;
 mod numbers;
 mod report;
 #[cfg(test)]

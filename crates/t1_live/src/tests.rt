@@ -1,6 +1,6 @@
 ghost use Rattle.std.specs.Prelude.{◌≡◌, length, IfOk};
 
-use crate::{Agents, FreeGate, Gate, run_live};
+use crate::{Agents, FreeGate, Gate, laws, run_live};
 use std::alloc::{AllocError, Global};
 use std::process::Abort;
 use std::sync::Wait;
@@ -137,5 +137,13 @@ fn a_barrier_lets_one_core_see_the_others_store(rt: HostRuntime) -> Result<(), F
         let report = report_of(&rt, rt.alloc(), &FreeGate)?;
         assert!(rt; loaded(&rt, &report, 0) == 1 || loaded(&rt, &report, 1) == 1);
     }
+    Ok(())
+}
+
+#[test]
+fn each_law_is_called(_rt: HostRuntime) -> Result<(), Fail> {
+    laws::core_agents_keep_their_rule();
+    laws::destination_agents_keep_their_rule();
+    laws::crossbar_agents_keep_their_rule();
     Ok(())
 }
