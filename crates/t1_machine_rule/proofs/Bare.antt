@@ -153,7 +153,7 @@ module _ (ram : ℕ) where
   unfolding stored unit_done
   stored_bare t addr size value b =
       let y : Item = store_item addr size value in
-      let e : Entry = record { item = length t.items; addr = addr; size = size; value = value; sent = false } in
+      let e : Entry = record { item = length t.items; addr = addr; size = size; value = value; sent = false; dest = dest_of T1 addr } in
       let s : Strand = after_of t.strand (insn_of (word_of t.phase)) 0 in
       record {
         items = more_items t.items y b.items (bare_access y refl);
