@@ -72,7 +72,7 @@ place_is_next [] = refl
 place_is_next (e ∷ es) = at_place e.sent e es (place_is_next es)
 
 -- entries of which none is sent go anywhere
-unsent_to : (dest : ℕ) (es : List Entry) → are_unsent es ≡ true → are_sent_to dest es ≡ true
+pub unsent_to : (dest : ℕ) (es : List Entry) → are_unsent es ≡ true → are_sent_to dest es ≡ true
 unsent_to dest [] h = refl
 unsent_to dest (e ∷ es) h =
     let p = and_parts (not e.sent) (are_unsent es) h in
@@ -93,11 +93,11 @@ next_none es is = rw is refl
 -- ---- it is sent
 
 -- the next one, where there is one that may be sent
-record IsNext (es : List Entry) (e : Entry) : Type 0 where
-  is : next_unsent es ≡ Some e
-  goes : are_sent_to e.dest es ≡ true
+pub record IsNext (es : List Entry) (e : Entry) : Type 0 where
+  pub is : next_unsent es ≡ Some e
+  pub goes : are_sent_to e.dest es ≡ true
 
-next_if : (es : List Entry) → IsSome (next_to_send_of es) → (e : Entry) × IsNext es e
+pub next_if : (es : List Entry) → IsSome (next_to_send_of es) → (e : Entry) × IsNext es e
 unfolding next_to_send_of
 next_if es some = by (next_unsent es) refl some
   where
@@ -110,22 +110,22 @@ next_if es some = by (next_unsent es) refl some
     by (Some e) is h = (e, record { is = is; goes = chosen (are_sent_to e.dest es) e h })
 
 -- what follows the oldest, where that is sent; else the oldest is the next one
-next_after : (s : Bool) (d e : Entry) (o : Option Entry) → (if s then o else Some d) ≡ Some e → ((s ≡ true) × (o ≡ Some e)) ⊎ ((s ≡ false) × (d ≡ e))
+pub next_after : (s : Bool) (d e : Entry) (o : Option Entry) → (if s then o else Some d) ≡ Some e → ((s ≡ true) × (o ≡ Some e)) ⊎ ((s ≡ false) × (d ≡ e))
 next_after true d e o h = inl (refl, h)
 next_after false d e o h = inr (refl, (let q : d ≡ e = cc (h) in q))
 
-abbrev mark : Entry → Entry
+abbrev pub mark : Entry → Entry
 mark e = record e { sent = true }
 
-sent_after : (e : Entry) (es : List Entry) → e.sent ≡ true → sent_next (e ∷ es) ≡ e ∷ sent_next es
+pub sent_after : (e : Entry) (es : List Entry) → e.sent ≡ true → sent_next (e ∷ es) ≡ e ∷ sent_next es
 unfolding sent_next
 sent_after e es on = rw on refl
 
-sent_here : (e : Entry) (es : List Entry) → e.sent ≡ false → sent_next (e ∷ es) ≡ mark e ∷ es
+pub sent_here : (e : Entry) (es : List Entry) → e.sent ≡ false → sent_next (e ∷ es) ≡ mark e ∷ es
 unfolding sent_next
 sent_here e es off = rw off refl
 
-sent_length : (es : List Entry) → length (sent_next es) ≡ length es
+pub sent_length : (es : List Entry) → length (sent_next es) ≡ length es
 unfolding sent_next
 sent_length [] = refl
 sent_length (e ∷ es) = elim (cases_Bool e.sent) [ inl on ↦ rw on (ap suc (sent_length es)) | inr off ↦ rw off refl ]
