@@ -15,6 +15,8 @@ use Rattle.t1_exec.specs.declared.need.Need.TheVariants as need
 use Rattle.t1_exec.specs.declared.need.AtomicOp.TheVariants.{Swap, Cas}
 use Rattle.t1_exec.specs.Needs.{need_of}
 use Rattle.t1_exec.specs.Meanings.{after_of}
+use Rattle.t1_shape.specs.Shapes.Shape.{T1}
+use Rattle.t1_packet.specs.Ops.{dest_of}
 use Rattle.t1_sbuf.specs.declared.entry.Entry.{Entry}
 use Rattle.t1_sbuf.specs.Entries.{sent_next}
 use Rattle.t1_event.specs.declared.item.Item.{Item}
