@@ -1,5 +1,5 @@
--- Which store of a buffer is sent next. Only this file and Drains know it: the oldest that is not sent, where those that
--- are out go where it goes.
+-- Which store of a buffer may be sent next. Only this file knows it: the oldest that is not sent, where those that are
+-- out go where it goes.
 use Rattle.std.proofs.Common.{◌≡◌, ℕ, not, ◌||◌, ◌==◌, if◌then◌else◌, Bool, true, false, List, [], ◌∷◌, ◌++◌, length, suc, Option, Some, None, refl, ap, sym, ◌∙◌, subst, inl, inr}
 use Rattle.std.proofs.lemmas.Bool.{cases_Bool, and_parts, eqb-true}
 use Rattle.t1_shape.specs.Shapes.Shape.{T1}
