@@ -75,8 +75,8 @@ fn commands_have_these_statuses(rt: HostRuntime) -> Result<(), Fail> {
 
 #[test]
 fn devices_of_live_may_fail(rt: HostRuntime) -> Result<(), Fail> {
-    let text = Vec::from_slice(rt.alloc(), halt().as_bytes())?;
-    let file = serve(&rt, rt.alloc(), "asm", text, CALM)?.out;
+    let guest = Vec::from_slice(rt.alloc(), halt().as_bytes())?;
+    let file = serve(&rt, rt.alloc(), "asm", guest, CALM)?.out;
     // The plan, the status, the bytes that are written, and the line on err.
     let table = [
         (Plan { read: 1, ..CALM }, 5, 0, "t1sim: read fault\n"),
@@ -88,7 +88,8 @@ fn devices_of_live_may_fail(rt: HostRuntime) -> Result<(), Fail> {
     for (plan, status, len, told) in table {
         let came = serve(&rt, rt.alloc(), LIVE, file.clone()?, plan)?;
         assert_eq!(rt; came.status, status);
-        assert_eq!(rt; came.out.as_slice(), LOG.as_bytes().split_at(len).0);
+        let text = LOG.as_bytes();
+        assert_eq!(rt; came.out.as_slice(), text.split_at(len.min(text.len())).0);
         assert_eq!(rt; came.err.as_slice(), told.as_bytes());
     }
     Ok(())
