@@ -1,6 +1,7 @@
 //! Every command over devices in memory.
 
 mod commands;
+mod hostile;
 mod threads;
 
 use crate::t1_top;
@@ -19,18 +20,23 @@ struct Came {
     err: Vec<u8>,
 }
 
-/// The calls of the devices that fail.
+/// The calls of the devices that fail, the most bytes that one write takes, and those that the output
+/// holds.
 #[derive(Clone, Copy)]
 struct Plan {
     read: u32,
     write: u32,
     tell: u32,
+    piece: usize,
+    room: usize,
 }
 
 const CALM: Plan = Plan {
     read: 0,
     write: 0,
     tell: 0,
+    piece: 4096,
+    room: 1 << 24,
 };
 
 /// Serves a command.
@@ -45,9 +51,15 @@ fn serve<R: Threads + Wait + Sync>(
     for word in line.split_whitespace() {
         words.push(String::from_str(alloc, word)?)?;
     }
-    let mut input = MemSource::new(file, 4096, Vec::from_slice(alloc, &[plan.read])?);
-    let mut out = MemSink::new(alloc, 1 << 24, 4096, Vec::from_slice(alloc, &[plan.write])?)?;
-    let mut err = MemSink::new(alloc, 256, 4096, Vec::from_slice(alloc, &[plan.tell])?)?;
+    let piece = plan.piece.max(1);
+    let mut input = MemSource::new(file, 16, Vec::from_slice(alloc, &[plan.read])?);
+    let mut out = MemSink::new(
+        alloc,
+        plan.room,
+        piece,
+        Vec::from_slice(alloc, &[plan.write])?,
+    )?;
+    let mut err = MemSink::new(alloc, 256, piece, Vec::from_slice(alloc, &[plan.tell])?)?;
     let status = t1_top(
         rt,
         alloc,

@@ -48,16 +48,21 @@ fn one_of_two_loads_sees_a_store_behind_a_membar(rt: HostRuntime) -> Result<(), 
 
 #[test]
 fn a_message_is_seen_after_its_flag(rt: HostRuntime) -> Result<(), Fail> {
-    let line = "live --cores 2 --strands 1 --ram 65536";
-    let all = runs(&rt, rt.alloc(), line, message(), 20)?;
-    assert_eq!(rt; all.len(), 20);
-    for came in all.as_slice() {
-        let log = str::from_utf8(came.out.as_slice())?;
-        // A strand that waits for its flag may be spent before it comes.
-        if came.status == 0 {
-            assert_eq!(rt; last_got(log, "1", "load", "0000008040"), ONE);
-        } else {
-            assert_eq!(rt; came.status, 4);
+    // A strand that waits for its flag may be spent before it comes; with more units it rarely is.
+    let table = [
+        ("live --cores 2 --strands 1 --ram 65536", 20),
+        ("live --cores 2 --strands 1 --ram 65536 --budget 100000", 5),
+    ];
+    for (line, count) in table {
+        let all = runs(&rt, rt.alloc(), line, message(), count)?;
+        assert_eq!(rt; all.len(), count as usize);
+        for came in all.as_slice() {
+            let log = str::from_utf8(came.out.as_slice())?;
+            if came.status == 0 {
+                assert_eq!(rt; last_got(log, "1", "load", "0000008040"), ONE);
+            } else {
+                assert_eq!(rt; came.status, 4);
+            }
         }
     }
     Ok(())
