@@ -88,8 +88,8 @@ fn two_readers_see_two_stores_in_one_order(rt: HostRuntime) -> Result<(), Fail> 
 #[test]
 fn counts_of_32_strands_come_to_320(rt: HostRuntime) -> Result<(), Fail> {
     let line = "live --ram 65536 --budget 3000";
-    let all = runs(&rt, rt.alloc(), line, counter(), 3)?;
-    assert_eq!(rt; all.len(), 3);
+    let all = runs(&rt, rt.alloc(), line, counter(), 1)?;
+    assert_eq!(rt; all.len(), 1);
     for came in all.as_slice() {
         assert_eq!(rt; came.status, 0);
         let put = last_put(rt.alloc(), str::from_utf8(came.out.as_slice())?)?;
