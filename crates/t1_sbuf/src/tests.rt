@@ -24,10 +24,31 @@ fn store(item: u32, addr: u64, size: u8, value: u64) -> Entry
     }
 }
 
-fn marked(entry: Entry) -> Entry {
-    Entry {
-        sent: true,
-        ..entry
+/// The next store that may be sent is this one, and is sent.
+fn send(rt: &impl Abort, buffer: &mut StoreBuffer, store: Entry) {
+    match buffer.next_to_send() {
+        Some(next) => {
+            assert_eq!(rt; next, store);
+            buffer.sent();
+        }
+        None => assert!(rt; false, "no store may be sent"),
+    }
+}
+
+/// The oldest store is this one, is sent, and is acknowledged.
+fn acknowledge(rt: &impl Abort, buffer: &mut StoreBuffer, store: Entry) {
+    match buffer.oldest() {
+        Some(Entry { sent: true, .. }) => {
+            let acknowledged = buffer.ack();
+            assert_eq!(rt;
+                acknowledged,
+                Entry {
+                    sent: true,
+                    ..store
+                }
+            );
+        }
+        _ => assert!(rt; false, "the oldest store is not sent"),
     }
 }
 
@@ -42,18 +63,12 @@ fn a_buffer_is_a_queue(rt: HostRuntime) {
     buffer.push(second);
     assert_eq!(rt; buffer.len(), 2);
     assert_eq!(rt; buffer.oldest(), Some(first));
-    assert_eq!(rt; buffer.next_to_send(), Some(first));
-    buffer.sent();
-    assert_eq!(rt;
-        buffer.next_to_send(),
-        Some(second),
-        "the second goes where the first went"
-    );
-    buffer.sent();
+    send(&rt, &mut buffer, first);
+    send(&rt, &mut buffer, second);
     assert_eq!(rt; buffer.next_to_send(), None, "both are out");
-    assert_eq!(rt; buffer.ack(), marked(first));
+    acknowledge(&rt, &mut buffer, first);
     assert_eq!(rt; buffer.next_to_send(), None);
-    assert_eq!(rt; buffer.ack(), marked(second));
+    acknowledge(&rt, &mut buffer, second);
     assert!(rt; buffer.is_empty());
 }
 
@@ -69,19 +84,18 @@ fn a_store_to_another_destination_waits(rt: HostRuntime) {
     buffer.push(first);
     buffer.push(second);
     buffer.push(other);
-    buffer.sent();
-    buffer.sent();
+    send(&rt, &mut buffer, first);
+    send(&rt, &mut buffer, second);
     assert_eq!(rt;
         buffer.next_to_send(),
         None,
         "two are out to another destination"
     );
-    assert_eq!(rt; buffer.ack(), marked(first));
+    acknowledge(&rt, &mut buffer, first);
     assert_eq!(rt; buffer.next_to_send(), None, "one still is");
-    assert_eq!(rt; buffer.ack(), marked(second));
-    assert_eq!(rt; buffer.next_to_send(), Some(other));
-    buffer.sent();
-    assert_eq!(rt; buffer.ack(), marked(other));
+    acknowledge(&rt, &mut buffer, second);
+    send(&rt, &mut buffer, other);
+    acknowledge(&rt, &mut buffer, other);
     assert!(rt; buffer.is_empty());
 }
 
