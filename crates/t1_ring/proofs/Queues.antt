@@ -1,7 +1,6 @@
 -- Each call on a request queue keeps its rule.
 use Rattle.std.proofs.Common.{◌≡◌, ◌≢◌, ◌==◌, ◌⊎◌, ◌+◌, ◌<◌, ℕ, zero, suc, Bool, true, false, true≢false, List, [], ◌∷◌, ◌++◌, length, set, sym, refl, ap, ◌∙◌, subst, ⊎_elim, append_assoc, inl, inr, arith, if◌then◌else◌}
 use mathlib.Core.Option.{Option, some, none, some-ne-none, some-injective}
-use mathlib.Core.List.{IsPrefix}
 use lib.ListN.{get_elem?}
 use Rattle.std.proofs.lemmas.Bool.{cases_eq, cases_lt}
 use Rattle.std.proofs.lemmas.Bool.Decides.{nat_tests}
@@ -13,7 +12,7 @@ use Rattle.t1_ring.specs.declared.rule.Returned.{Returned}
 use Rattle.t1_ring.specs.declared.rule.Account.{Account}
 use Rattle.t1_ring.specs.Ends.{QueueName}
 use Rattle.t1_ring.specs.Queue.{CoreSeatState, DestSeatState, of_core, seats_from, AreFirst}
-use Rattle.t1_ring.specs.QueueRule.{taking, pushing, spent, returned, PushesOne, TakesOne, Counts, IsCorePass, IsBack, AreBack, IsDestPass, IsInOrder}
+use Rattle.t1_ring.specs.QueueRule.{taking, pushing, spent, returned, last_back, before_last, PushesOne, TakesOne, Counts, IsCorePass, IsBack, IsAbsent, AreBack, IsDestPass, IsInOrder}
 
 -- ---- tests
 
@@ -92,18 +91,24 @@ module _ {A : Type 0} where
 
 back_still : (n m : Counts) (cores more : ℕ) (seats : List Returned) → ((seat : Returned) → IsBack n cores seat → IsBack m more seat) → AreBack n cores seats → AreBack m more seats
 back_still n m cores more [] f h = tt
-back_still n m cores more (seat ∷ seats) f h = (f seat h.0, back_still n m cores more seats f h.1)
+back_still n m cores more (seat ∷ seats) f h = (f seat h.0, h.1, back_still n m cores more seats f h.2)
 
-back_more : (n : Counts) (cores : ℕ) (seats : List Returned) (seat : Returned) → AreBack n cores seats → IsBack n cores seat → AreBack n cores (seats ++ seat ∷ [])
-back_more n cores [] seat h k = (k, tt)
-back_more n cores (s ∷ seats) seat h k = (h.0, back_more n cores seats seat h.1 k)
+-- a core that has a seat is not among them
+absent : (n : Counts) (cores core pass : ℕ) (seats : List Returned) → n.seat core ≡ some pass → AreBack n cores seats → IsAbsent core seats
+absent n cores core pass [] e h = tt
+absent n cores core pass (seat ∷ seats) e h = ((λ same. none_some (n.seat core) pass (ap n.seat (sym same) ∙ h.0.1) e), absent n cores core pass seats e h.2)
+
+-- another core gets its seat again
+back_apart : (n m : Counts) (cores core : ℕ) (seats : List Returned) → ((seat : Returned) → seat.core ≢ core → IsBack n cores seat → IsBack m cores seat) → IsAbsent core seats → AreBack n cores seats → AreBack m cores seats
+back_apart n m cores core [] f a h = tt
+back_apart n m cores core (seat ∷ seats) f a h = (f seat a.0 h.0, h.1, back_apart n m cores core seats f a.1 h.2)
 
 back_first : (n : Counts) (cores : ℕ) (taken items : List RequestData) (seats : List Returned) → taken ≡ n.got → ((core : ℕ) → of_core core (n.got ++ items) ≡ n.pushed core) → AreBack n cores seats
     → AreFirst taken seats
 back_first n cores taken items [] e order h = tt
 back_first n cores taken items (seat ∷ seats) e order h = (
   (of_core seat.core items, ap (λ l. of_core seat.core l ++ of_core seat.core items) e ∙ sym (of_append seat.core n.got items) ∙ order seat.core ∙ sym h.0.2),
-  back_first n cores taken items seats e order h.1,
+  back_first n cores taken items seats e order h.2,
 )
 
 -- ---- the start
@@ -223,9 +228,9 @@ forks pass v may items views h at =
 -- ---- a seat that is given back
 
 pub merges : (pass : ℕ) (v : Account) (other : ℕ) (u : Account) → v ≡ taking v.taken v.cores v.back → u ≡ pushing u.core u.pushed
-    → Merges IsInOrder pass v other u (taking v.taken v.cores (v.back ++ returned u.core u.pushed ∷ [])) spent
+    → Merges IsInOrder pass v other u (taking v.taken v.cores (returned u.core u.pushed ∷ v.back)) spent
 merges pass v other u a b items views h at two at' =
-    let both : Account = taking v.taken v.cores (v.back ++ returned u.core u.pushed ∷ []) in
+    let both : Account = taking v.taken v.cores (returned u.core u.pushed ∷ v.back) in
     let vs : List Account = set views pass both in
     let k = h.counts in
     let was : get_elem? views other ≡ some u = ⊎_elim (λ (x : (other ≡ pass) × (both ≡ u)). absurd (two x.0)) (λ (x : (other ≢ pass) × (get_elem? views other ≡ some u)). x.1) (at_set views pass other both u at') in
@@ -250,8 +255,11 @@ merges pass v other u a b items views h at two at' =
         mine.0,
         mine.1,
         (λ p l. let q = mine.2 p l in (still p q.0, q.1)),
-        back_more now v.cores v.back (returned u.core u.pushed) (back_still k now v.cores v.cores v.back (λ y q. (q.0, still y.core q.1, q.2)) mine.3)
-            (low, upto_here k.seat u.core none u.core refl, theirs.1),
+        (
+          (low, upto_here k.seat u.core none u.core refl, theirs.1),
+          absent k v.cores u.core other v.back theirs.0 mine.3,
+          back_still k now v.cores v.cores v.back (λ y q. (q.0, still y.core q.1, q.2)) mine.3,
+        ),
       )),
     ))
     (λ j y away e apart. (
@@ -263,6 +271,58 @@ merges pass v other u a b items views h at two at' =
       order = h.order;
       passes = all_set (Fits now) vs other spent ((λ s. never false refl s), (λ s. never false refl s)) (λ j y apart e. kept j y e apart);
     }
+
+-- ---- a seat that is handed out again
+
+pub spares : (pass : ℕ) (v : Account) → Forks IsInOrder pass v v spent
+spares pass v items views h at =
+    let vs : List Account = set views pass v in
+    let kept : All (Fits h.counts) vs = all_set (Fits h.counts) views pass v (h.passes pass v at) (λ j u other e. h.passes j u e) in
+    record {
+      counts = h.counts;
+      order = h.order;
+      passes = λ j u e. ⊎_elim (λ (x : get_elem? vs j ≡ some u). kept j u x)
+          (λ (x : (j ≡ length vs) × (spent ≡ u)). subst (λ (y : Account). Fits h.counts j y) x.1 ((λ s. never false refl s), (λ t. never false refl t))) (at_end vs spent u j e);
+    }
+
+pub agains : (pass : ℕ) (v : Account) (x : Returned) (xs : List Returned) → v ≡ taking v.taken v.cores (x ∷ xs) → Forks IsInOrder pass v (taking v.taken v.cores xs) (pushing x.core x.pushed)
+agains pass v x xs may items views h at =
+    let l : Account = taking v.taken v.cores xs in
+    let r : Account = pushing x.core x.pushed in
+    let vs : List Account = set views pass l in
+    let k = h.counts in
+    let mine = (h.passes pass v at).1 (ap (λ (y : Account). y.takes) may) in
+    let all : AreBack k v.cores (x ∷ xs) = subst (λ (ys : List Returned). AreBack k v.cores ys) (ap (λ (y : Account). y.back) may) mine.3 in
+    let free = all.0 in
+    let seat : ℕ → Option ℕ = upto k.seat x.core (some (length views)) in
+    let now : Counts = record { reader = k.reader; seat = seat; pushed = k.pushed; got = k.got } in
+    let still : (p : ℕ) → p ≢ x.core → seat p ≡ k.seat p = λ p e. upto_else k.seat x.core (some (length views)) p e in
+    let low : x.core < v.cores = free.0 in
+    let kept : All (Fits now) vs = all_set (Fits now) views pass l (
+      (λ s. never false refl s),
+      (λ _. (
+        mine.0,
+        mine.1,
+        (λ p past. let q = mine.2 p past in (still p (omega (arith, low, past)) ∙ q.0, q.1)),
+        back_apart k now v.cores x.core xs (λ y apart q. (q.0, still y.core apart ∙ q.1, q.2)) all.1 all.2,
+      )),
+    )
+    (λ j u other e. (
+      (λ s. let q = (h.passes j u e).0 s in (still u.core (λ y. none_some (k.seat x.core) j free.1 (ap k.seat (sym y) ∙ q.0)) ∙ q.0, q.1)),
+      (λ t. absurd (other (((h.passes j u e).1 t).0 ∙ sym mine.0))),
+    )) in
+    record {
+      counts = now;
+      order = h.order;
+      passes = λ j u e. ⊎_elim (λ (y : get_elem? vs j ≡ some u). kept j u y)
+          (λ (y : (j ≡ length vs) × (r ≡ u)). subst (λ (z : Account). Fits now j z) y.1
+          ((λ _. (upto_here k.seat x.core (some (length views)) x.core refl ∙ ap some (sym (y.0 ∙ length-set views pass l)), free.2)), (λ t. never false refl t)))
+          (at_end vs r u j e);
+    }
+
+pub again_rule : (pass : ℕ) (v : Account) (x : Returned) (xs : List Returned) → v ≡ taking v.taken v.cores (x ∷ xs) → Forks IsInOrder pass v (taking v.taken v.cores (before_last v.back)) (last_back v.back)
+again_rule pass v x xs may =
+    subst (λ (ys : List Returned). Forks IsInOrder pass v (taking v.taken v.cores (before_last ys)) (last_back ys)) (sym (ap (λ (y : Account). y.back) may)) (agains pass v x xs may)
 
 pub learns : (pass : ℕ) (v : Account) → v ≡ taking v.taken v.cores v.back → Learns IsInOrder pass v (λ items. AreFirst v.taken v.back)
 learns pass v a items views h at =
@@ -295,8 +355,3 @@ pub dest_of : (queue q : QueueName) (v : Account) (cores n : ℕ) → queue ≡ 
 dest_of queue q v cores n e f g =
     ap (λ (z : QueueName). record { queue = z; cores = v.cores; taken = v.taken; back = v.back }) e ∙ ap (λ (y : Account). record { queue = q; cores = y.cores; taken = y.taken; back = y.back }) f
     ∙ ap (λ (k : ℕ). record { queue = q; cores = k; taken = []; back = [] }) g
-
--- the seat that is back last
-pub first_of_last : (taken : List RequestData) (seats : List Returned) (seat : Returned) → AreFirst taken (seats ++ seat ∷ []) → IsPrefix (of_core seat.core taken) seat.pushed
-first_of_last taken [] seat h = h.0
-first_of_last taken (s ∷ seats) seat h = first_of_last taken seats seat h.1

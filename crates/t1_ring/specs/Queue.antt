@@ -17,7 +17,8 @@ pub record CoreSeatState : Type 0 where
   pub core : ℕ
   pub pushed : List RequestData
 
--- the destination's seat, how many cores have a seat, what it took, and what each seat pushed that was given back
+-- the destination's seat, how many cores have a seat, what it took, and what each seat pushed that was given
+-- back, the last first
 pub record DestSeatState : Type 0 where
   pub queue : QueueName
   pub cores : ℕ

@@ -1,7 +1,7 @@
 -- The rule of a request queue. Its entries of a core are that core's pushes from some number on: entry number k of a
 -- core, counted from the first that was ever there, is the k-th request that its seat pushed, and the destination took
 -- the first of them. Where a seat was given back, the destination's keeps the list that it had pushed.
-use Rattle.std.specs.Prelude.{ℕ, ◌≡◌, ◌<◌, ◌≤◌, true, false, List, [], ◌∷◌, ◌++◌}
+use Rattle.std.specs.Prelude.{ℕ, ◌≡◌, ◌≢◌, ◌<◌, ◌≤◌, true, false, List, [], ◌∷◌, ◌++◌}
 use mathlib.Core.Option.{Option, some, none}
 use lib.ListN.{get_elem?}
 use Rattle.crossbeam_queue.specs.Passes.{Pass, view}
@@ -28,6 +28,15 @@ spent = record { pushes = false; takes = false; core = 0; pushed = []; taken = [
 abbrev pub returned : ℕ → List RequestData → Returned
 returned core pushed = record { core = core; pushed = pushed }
 
+-- the seat that came back last, as the pass that it was, and those before it
+abbrev pub last_back : List Returned → Account
+last_back [] = spent
+last_back (seat ∷ seats) = pushing seat.core seat.pushed
+
+abbrev pub before_last : List Returned → List Returned
+before_last [] = []
+before_last (seat ∷ seats) = seats
+
 -- a push, and a pop
 abbrev pub PushesOne : Account → RequestData → Account → Type 0
 PushesOne before request after = after ≡ pushing before.core (before.pushed ++ request ∷ [])
@@ -53,9 +62,14 @@ IsCorePass n pass v = v.pushes ≡ true → (n.seat v.core ≡ some pass) × (v.
 abbrev pub IsBack : Counts → ℕ → Returned → Type 0
 IsBack n cores seat = (seat.core < cores) × (n.seat seat.core ≡ none) × (seat.pushed ≡ n.pushed seat.core)
 
+-- of no core is more than one seat back
+abbrev pub IsAbsent : ℕ → List Returned → Type 0
+IsAbsent core [] = Unit {0}
+IsAbsent core (seat ∷ seats) = (seat.core ≢ core) × IsAbsent core seats
+
 abbrev pub AreBack : Counts → ℕ → List Returned → Type 0
 AreBack n cores [] = Unit {0}
-AreBack n cores (seat ∷ seats) = IsBack n cores seat × AreBack n cores seats
+AreBack n cores (seat ∷ seats) = IsBack n cores seat × IsAbsent seat.core seats × AreBack n cores seats
 
 -- no core from one on has a seat or pushed anything
 abbrev pub NoneFrom : Counts → ℕ → Type 0

@@ -4,10 +4,11 @@ ghost use mathlib.Core.List.{IsPrefix};
 ghost use Rattle.t1_ring.specs.Queue.{of_core, seats_from, AreFirst, WasFull, WasEmpty};
 ghost use Rattle.t1_ring.specs.QueueRule.{returned};
 
-use crate::rule::{Account, First, Line, Pushed, Seats, Taken};
+use crate::rule::{Account, Again, First, Line, Pushed, Seats, Spare, Taken};
 use crossbeam_queue::Pass;
 use std::alloc::{AllocError, Global};
 use std::marker::Model;
+use std::mem;
 use std::sync::Wait;
 use t1_packet::Request;
 
@@ -120,11 +121,26 @@ impl RequestQueue {
         requires core { core.queue ≡ self.now.name }
         requires dest { dest.old.queue ≡ self.now.name }
         ensures dest { (dest.new.queue ≡ dest.old.queue) × (dest.new.cores ≡ dest.old.cores) × (dest.new.taken ≡ dest.old.taken) }
-        ensures back { dest.new.back ≡ dest.old.back ++ returned core.core core.pushed ∷ [] }
+        ensures back { dest.new.back ≡ returned core.core core.pushed ∷ dest.old.back }
         ensures first { IsPrefix (of_core core.core dest.new.taken) core.pushed }
         ensures all { AreFirst dest.new.taken dest.new.back }
     {
         self.line.absorb::<Seats>(&mut dest.pass, core.pass);
         self.line.learn_as::<First>(&mut dest.pass);
+    }
+
+    /// A core gives its seat back and gets it again: its requests among those that were taken are then
+    /// known to be the first of what it pushed. Takes no memory, and does not wait.
+    pub fn tie(&self, core: &mut CoreSeat, dest: &mut DestSeat)
+        requires core { core.old.queue ≡ self.now.name }
+        requires dest { dest.old.queue ≡ self.now.name }
+        ensures same { (core.new ≡ core.old) × (dest.new ≡ dest.old) }
+        ensures first { IsPrefix (of_core core.old.core dest.old.taken) core.old.pushed }
+    {
+        let spare = self.line.another::<Spare>(&mut dest.pass);
+        let pass = mem::replace(&mut core.pass, spare);
+        self.line.absorb::<Seats>(&mut dest.pass, pass);
+        self.line.learn_as::<First>(&mut dest.pass);
+        core.pass = self.line.another::<Again>(&mut dest.pass);
     }
 }

@@ -47,12 +47,34 @@ impl Split<Account> for Seats {
 }
 
 impl Join<Account> for Seats {
-    ghost use Rattle.std.specs.Prelude.{[], ◌∷◌, ◌++◌};
+    ghost use Rattle.std.specs.Prelude.{◌∷◌};
     ghost use Rattle.t1_ring.specs.QueueRule.{taking, spent, returned};
 
-    ghost both = { λ v w. taking v.taken v.cores (v.back ++ returned w.core w.pushed ∷ []) };
+    ghost both = { λ v w. taking v.taken v.cores (returned w.core w.pushed ∷ v.back) };
 
     ghost spent = { spent };
+}
+
+/// A pass that may do nothing.
+pub struct Spare;
+
+impl Split<Account> for Spare {
+    ghost use Rattle.t1_ring.specs.QueueRule.{spent};
+
+    ghost left = { λ v. v };
+
+    ghost right = { λ v. spent };
+}
+
+/// The seat that came back last is handed out again.
+pub struct Again;
+
+impl Split<Account> for Again {
+    ghost use Rattle.t1_ring.specs.QueueRule.{taking, last_back, before_last};
+
+    ghost left = { λ v. taking v.taken v.cores (before_last v.back) };
+
+    ghost right = { λ v. last_back v.back };
 }
 
 /// A request was pushed.

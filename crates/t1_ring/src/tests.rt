@@ -65,6 +65,7 @@ fn a_queue_of_one_core_holds_two(rt: HostRuntime) -> Result<(), Fail> {
     assert_eq!(rt; queue.push(&rt, &mut seat, request(1)), Ok(()));
     assert_eq!(rt; queue.push(&rt, &mut seat, request(2)), Ok(()));
     assert_eq!(rt; queue.push(&rt, &mut seat, request(3)), Err(request(3)));
+    queue.tie(&mut seat, &mut dest);
     assert_eq!(rt; queue.pop(&rt, &mut dest), Some(request(1)));
     assert_eq!(rt; queue.pop(&rt, &mut dest), Some(request(2)));
     assert_eq!(rt; queue.pop(&rt, &mut dest), None);
