@@ -4,6 +4,7 @@ ghost use Rattle.t1_crew.specs.Id.{Id};
 
 use crate::flags::Flags;
 use std::snapshot::Snapshot;
+use std::sync::Wait;
 use std::thread::{Promise, PromisedHandle};
 
 /// Who may hold an agent up before each of its turns.
@@ -38,7 +39,7 @@ pub trait Agent {
 
     fn number(&self) -> u8;
 
-    fn turn(&mut self, flags: &Flags) -> Turned
+    fn turn<R: Wait>(&mut self, rt: &R, flags: &Flags) -> Turned
         ensures same { id self.new ≡ id self.old }
         ensures over { result ≡ Turned.Ended → over self.new ≡ true };
 }
@@ -62,14 +63,14 @@ impl<A: Agent> Kept<A> {
     }
 
     /// One turn, unless it has ended: whether it did anything.
-    pub(crate) fn turn<G: Gate>(&mut self, gate: &G, flags: &Flags) -> bool
+    pub(crate) fn turn<R: Wait, G: Gate>(&mut self, rt: &R, gate: &G, flags: &Flags) -> bool
         ensures { A.id self.new.agent ≡ A.id self.old.agent }
     {
         if self.ended {
             return false;
         }
         gate.pass(self.agent.number());
-        match self.agent.turn(flags) {
+        match self.agent.turn(rt, flags) {
             Turned::Worked => {
                 self.ended = false;
                 true

@@ -22,7 +22,7 @@ fn work<A: Agent, R: Wait, G: Gate>(rt: &R, kept: Kept<A>, gate: &G, flags: &Fla
         if kept.ended || flags.is_given_up() {
             break;
         }
-        if !kept.turn(gate, flags) {
+        if !kept.turn(rt, gate, flags) {
             thread::yield_now();
         }
     }
@@ -75,13 +75,13 @@ fn start<'s, E: 's, A: Agent + Drop + Send + 's, R: Threads + Wait + Sync, G: Ga
 
 impl<A: Agent + Drop> Slot<A> {
     /// One turn of an agent that waits here. Says whether it goes on.
-    fn turn<G: Gate>(&mut self, gate: &G, flags: &Flags) -> bool
+    fn turn<R: Wait, G: Gate>(&mut self, rt: &R, gate: &G, flags: &Flags) -> bool
         ensures { slot_id self.new ≡ slot_id self.old }
     {
         match self {
             Slot::Away(_) => false,
             Slot::Here(kept) => {
-                kept.turn(gate, flags);
+                kept.turn(rt, gate, flags);
                 !kept.ended
             }
         }
@@ -100,13 +100,18 @@ impl<A: Agent + Drop> Slot<A> {
 
 /// One turn of each agent that waits here. Says whether one of them goes on.
 #[tactic(auto, using(crate::proofs::Rows::slot_ids_set))]
-fn turn_here<A: Agent + Drop, G: Gate>(slots: &mut Vec<Slot<A>>, gate: &G, flags: &Flags) -> bool
+fn turn_here<A: Agent + Drop, R: Wait, G: Gate>(
+    rt: &R,
+    slots: &mut Vec<Slot<A>>,
+    gate: &G,
+    flags: &Flags,
+) -> bool
     ensures same { slot_ids slots.new.items ≡ slot_ids slots.old.items }
     ensures len { vec_len slots.new ≡ vec_len slots.old }
 {
     let mut goes_on = false;
     for i in 0..slots.len() {
-        if slots[i].turn(gate, flags) {
+        if slots[i].turn(rt, gate, flags) {
             goes_on = true;
         }
     }
@@ -169,9 +174,9 @@ fn run_in<
     start(scope, rt, second, &mut second_slots, gate, flags);
     let mut slot = started(scope, rt, last, gate, flags);
     for _ in rt.forever() {
-        let first_goes = turn_here(&mut first_slots, gate, flags);
-        let second_goes = turn_here(&mut second_slots, gate, flags);
-        let last_goes = slot.turn(gate, flags);
+        let first_goes = turn_here(rt, &mut first_slots, gate, flags);
+        let second_goes = turn_here(rt, &mut second_slots, gate, flags);
+        let last_goes = slot.turn(rt, gate, flags);
         if flags.is_given_up() || !(first_goes || second_goes || last_goes) {
             break;
         }

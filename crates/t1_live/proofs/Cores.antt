@@ -124,6 +124,15 @@ drain_goes : (config : Config) (image : Image) (number : ℕ) (core : CoreState)
 drain_goes config image number core sent received strand room d r k e =
     requests_go_out.drain (setup_of config image) number strand room d k.history.calls r k.runs.blocks (ap (λ (c : CoreState). (drain_of c strand room).did) (history_is config image number core sent received k) ∙ e)
 
+-- it is of the core
+pub turn_core : (config : Config) (image : Image) (number : ℕ) (core : CoreState) (sent : List (List RequestData)) (received : List Packet) (room d : ℕ) (r : RequestData)
+    → IsCoreSide (setup_of config image) number core sent received → (turn_of core room).did ≡ Some (did.Sent d r) → r.core ≡ number
+turn_core config image number core sent received room d r k e = (turn_goes config image number core sent received room d r k e).meant.core_is
+
+pub drain_core : (config : Config) (image : Image) (number : ℕ) (core : CoreState) (sent : List (List RequestData)) (received : List Packet) (strand room d : ℕ) (r : RequestData)
+    → IsCoreSide (setup_of config image) number core sent received → (drain_of core strand room).did ≡ drained.Sent d r → r.core ≡ number
+drain_core config image number core sent received strand room d r k e = (drain_goes config image number core sent received strand room d r k e).meant.core_is
+
 -- a turn that sends this, or nothing
 pub turn_sends : (config : Config) (image : Image) (number : ℕ) (core next : CoreState) (sent now : List (List RequestData)) (received : List Packet) (room d : ℕ) (r : RequestData)
     → next ≡ (turn_of core room).core → (turn_of core room).did ≡ Some (did.Sent d r) → now ≡ with_more sent d r → IsCoreSide (setup_of config image) number core sent received → IsCoreSide (setup_of config image) number next now received

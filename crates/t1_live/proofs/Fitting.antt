@@ -178,8 +178,7 @@ module _ (config : Config) (image : Image) (cores : List CoreSide) (dests : List
   none_from c d dest is l =
       let ends = dest_ends d dest is in
       let from = wired.dest_from d (destination_id dest) (id_there destination_id dests d dest is) in
-      let all = ids_length core_id cores in
-      get_or_past dest.received c [] (omega (arith, ends, from, all, l))
+      get_or_past dest.received c [] (omega (arith, ends, from, full, l))
 
   -- ---- rings
 

@@ -1,3 +1,4 @@
+pub mod Lanes
 pub mod Cores
 pub mod Destinations
 pub mod Posting

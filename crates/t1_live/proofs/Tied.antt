@@ -66,8 +66,8 @@ module _ (w : Setup) (cores : List CoreSide) (dests : List DestinationSide) (cro
   within (y ∷ ys) zero x e = omega arith
   within (y ∷ ys) (suc i) x e = let l = within ys i x e in omega (arith, l)
 
-  pub rows_meet : RowsMeet cores dests
-  rows_meet c core is d dest has =
+  pub rows_meet : length cores ≡ w.config.cores → RowsMeet cores dests
+  rows_meet full c core is d dest has =
       let a = id_there core_id cores c core is in
       let b = id_there destination_id dests d dest has in
       let n = wired.core_to c (core_id core) a in
@@ -75,9 +75,8 @@ module _ (w : Setup) (cores : List CoreSide) (dests : List DestinationSide) (cro
       let five = wired.all_dests in
       let lc = within cores c core is in
       let ld = within dests d dest has in
-      let xc = ids_length core_id cores in
       let xd = ids_length destination_id dests in
-      record { here = omega (arith, n, five, ld, xd); there = omega (arith, m, lc, xc); meet = wired.requests c d (core_id core) (destination_id dest) a b }
+      record { here = omega (arith, n, five, ld, xd); there = omega (arith, m, lc, full); meet = wired.requests c d (core_id core) (destination_id dest) a b }
 
   pub served_meet : ServedEndsMeet dests crossbar
   served_meet d dest has =

@@ -1,4 +1,5 @@
 pub mod Posts
+pub mod Lanes
 pub mod Rules
 pub mod Sides
 pub mod Wires

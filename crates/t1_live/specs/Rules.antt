@@ -19,7 +19,9 @@ use Rattle.t1_core.specs.Steps.{CoreState}
 use Rattle.t1_core_rule.specs.Laws.{IsHistory}
 use Rattle.t1_machine.specs.Start.{IsRunnable}
 use Rattle.t1_xbar.specs.Admission.{XbarState}
+use Rattle.t1_ring.specs.Ends.{Mark}
 use Rattle.t1_ring.specs.Row.{with_more}
+use Rattle.t1_live.specs.Lanes.{AreOf}
 
 -- ---- a core: it is what its calls made of it, which took what came and sent what its ends sent
 
@@ -38,7 +40,13 @@ sent_after sent did.Moved = sent
 sent_after sent (did.Waits wait) = sent
 sent_after sent (did.Sent dest request) = with_more sent dest request
 
--- the end of what is sent knows of a free slot
+-- the seats are of the core that sent it
+abbrev pub AreOfSender : Did → List Mark → Type 0
+AreOfSender did.Moved marks = Unit {0}
+AreOfSender (did.Waits wait) marks = Unit {0}
+AreOfSender (did.Sent dest request) marks = AreOf request.core marks
+
+-- there is room for what is sent
 abbrev pub HasSlot : List ℕ → Did → Type 0
 HasSlot rooms did.Moved = Unit {0}
 HasSlot rooms (did.Waits wait) = Unit {0}

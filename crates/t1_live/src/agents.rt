@@ -81,8 +81,8 @@ impl Agents {
         let (senders, receivers) = ports(alloc, DESTINATIONS, MOST_SERVED)?;
         let (posters, takers) = ports(alloc, config.cores as usize, MOST_PACKETS)?;
         let crossbar = CrossbarAgent::new(alloc, config, &image, receivers, posters)?;
-        let mut dests = destinations(alloc, config, &image, senders)?;
-        let cores = cores(alloc, config, &image, takers, &mut dests, &crossbar)?;
+        let (dests, hubs) = destinations(alloc, config, &image, senders)?;
+        let cores = cores(alloc, config, &image, takers, hubs, &dests, &crossbar)?;
         let room = room_for(alloc, config)?;
         Ok(Agents {
             config: *config,

@@ -7,31 +7,32 @@ ghost use Rattle.t1_core_rule.specs.Histories.{Take};
 ghost use Rattle.t1_core_rule.specs.Laws.{IsWholeCall};
 ghost use Rattle.t1_machine.specs.Start.{IsRunnable, setup_of};
 ghost use Rattle.t1_ring.specs.Row.{sent_by, rooms_of, tx_marks, AreUnused};
-ghost use Rattle.t1_live.specs.Rules.{sent_after, HasSlot};
+ghost use Rattle.t1_live.specs.Lanes.{AreOf};
+ghost use Rattle.t1_live.specs.Rules.{sent_after, HasSlot, AreOfSender};
 ghost use Rattle.t1_live.specs.Sides.{core_id, is_core_over};
 ghost use Rattle.t1_live.specs.Starts.{CoreStarts};
 
+use crate::lane::{Lane, retry_all, rooms, send_at};
 use crate::numbers::ALL_CROSSBARS;
 use std::alloc::{AllocError, Global};
 use std::marker::Model;
 use std::snapshot::Snapshot;
+use std::sync::Wait;
 use t1_core::{Core, Did, Drained};
 use t1_crew::{Agent, Flags, Turned};
 use t1_elf::Image;
 use t1_event::Config;
-use t1_packet::{Packet, Request};
-use t1_ring::row::{rooms, send_at};
-use t1_ring::{Rx, Tx};
+use t1_packet::Packet;
+use t1_ring::Rx;
 
-/// A core, with the sending ends of its requests, one to each destination, and the receiving end of its
-/// packets.
+/// A core, with its lanes, one to each destination, and the receiving end of its packets.
 #[derive(Drop)]
 pub struct CoreAgent {
     config: Config,
     image: Snapshot<Image>,
     number: u8,
     core: Core,
-    pub(crate) requests: Vec<Tx<Request>>,
+    pub(crate) lanes: Vec<Lane>,
     pub(crate) packets: Rx<Packet>,
 }
 
@@ -39,6 +40,7 @@ impl Model for CoreAgent {
     ghost use Rattle.std.specs.Prelude.{[], ◌∷◌};
     ghost use Rattle.t1_machine.specs.Start.{setup_of};
     ghost use Rattle.t1_ring.specs.Row.{sent_by, tx_marks};
+    ghost use Rattle.t1_live.specs.Lanes.{AreOf};
     ghost use Rattle.t1_live.specs.Rules.{IsCoreSide};
     ghost use Rattle.t1_live.specs.Sides.{CoreSide};
 
@@ -48,13 +50,13 @@ impl Model for CoreAgent {
       setup = setup_of a.config a.image.value;
       number = a.number;
       core = a.core;
-      sent = sent_by a.requests.items;
+      sent = sent_by a.lanes.items;
       received = a.packets.received;
-      to = tx_marks a.requests.items;
+      to = tx_marks a.lanes.items;
       from = a.packets.mark ∷ [];
     } };
 
-    ghost invariant = { λ a. IsCoreSide (setup_of a.config a.image.value) a.number a.core (sent_by a.requests.items) a.packets.received };
+    ghost invariant = { λ a. IsCoreSide (setup_of a.config a.image.value) a.number a.core (sent_by a.lanes.items) a.packets.received × AreOf a.number (tx_marks a.lanes.items) };
 }
 
 /// The line of a reply has at most 32 bytes, as its type says.
@@ -66,15 +68,16 @@ fn is_whole(packet: &Packet)
     }
 }
 
-/// Sends what a strand asked for, if anything, by an end that knows of a free slot.
-fn send(ends: &mut Vec<Tx<Request>>, did: Did)
-    requires ends { length ends.old.items ≡ destinations T1 }
-    requires ring { HasSlot (rooms_of ends.old.items) did }
-    ensures marks { tx_marks ends.new.items ≡ tx_marks ends.old.items }
-    ensures sent { sent_by ends.new.items ≡ sent_after (sent_by ends.old.items) did }
+/// Sends what a strand asked for, if anything, by a lane by which nothing is kept.
+fn send<R: Wait>(rt: &R, lanes: &mut Vec<Lane>, did: Did)
+    requires lanes { length lanes.old.items ≡ destinations T1 }
+    requires ring { HasSlot (rooms_of lanes.old.items) did }
+    requires core { AreOfSender did (tx_marks lanes.old.items) }
+    ensures marks { tx_marks lanes.new.items ≡ tx_marks lanes.old.items }
+    ensures sent { sent_by lanes.new.items ≡ sent_after (sent_by lanes.old.items) did }
 {
     match did {
-        Did::Sent { dest, request } => send_at(ends, dest as usize, request),
+        Did::Sent { dest, request } => send_at(rt, lanes, dest as usize, request),
         Did::Moved => {}
         Did::Waits(_) => {}
     }
@@ -87,15 +90,16 @@ impl CoreAgent {
         config: &Config,
         image: &Image,
         number: u8,
-        requests: Vec<Tx<Request>>,
+        lanes: Vec<Lane>,
         packets: Rx<Packet>,
     ) -> Result<CoreAgent, AllocError>
         requires runs { IsRunnable (setup_of config.now image.now) }
         requires number { number < config.now.cores }
-        requires ends { length requests.items ≡ destinations T1 }
-        requires unused { AreUnused (sent_by requests.items) }
+        requires lanes { length lanes.items ≡ destinations T1 }
+        requires unused { AreUnused (sent_by lanes.items) }
+        requires seats { AreOf number (tx_marks lanes.items) }
         requires none { packets.received ≡ [] }
-        ensures id { IfOk result (λ a. core_id a ≡ record { setup = setup_of config.now image.now; number = number; to = tx_marks requests.items; from = packets.mark ∷ [] }) }
+        ensures id { IfOk result (λ a. core_id a ≡ record { setup = setup_of config.now image.now; number = number; to = tx_marks lanes.items; from = packets.mark ∷ [] }) }
         ensures starts { IfOk result (λ a. CoreStarts a) }
     {
         let core = Core::new(alloc, config, number, image.entry)?;
@@ -104,9 +108,16 @@ impl CoreAgent {
             image: Snapshot::of(image),
             number,
             core,
-            requests,
+            lanes,
             packets,
         })
+    }
+
+    /// Pushes the requests that are kept, as far as there is room: whether it pushed one.
+    fn retry<R: Wait>(&mut self, rt: &R) -> bool
+        ensures { core_id self.new ≡ core_id self.old }
+    {
+        retry_all(rt, &mut self.lanes)
     }
 
     /// Takes one packet, if one is known: whether it did.
@@ -122,13 +133,13 @@ impl CoreAgent {
     }
 
     /// Sends the oldest store of a strand, if it can: whether it did.
-    fn drain(&mut self, strand: u8) -> bool
+    fn drain<R: Wait>(&mut self, rt: &R, strand: u8) -> bool
         ensures { core_id self.new ≡ core_id self.old }
     {
-        let room = rooms(&mut self.requests) as u16;
+        let room = rooms(&self.lanes) as u16;
         match self.core.drain(strand, room) {
             Drained::Sent { dest, request } => {
-                send_at(&mut self.requests, dest as usize, request);
+                send_at(rt, &mut self.lanes, dest as usize, request);
                 true
             }
             Drained::Empty => false,
@@ -138,14 +149,14 @@ impl CoreAgent {
     }
 
     /// The least recently picked of the ready strands executes, if there is one: whether it did.
-    fn exec(&mut self) -> bool
+    fn exec<R: Wait>(&mut self, rt: &R) -> bool
         ensures { core_id self.new ≡ core_id self.old }
     {
-        let room = rooms(&mut self.requests) as u16;
+        let room = rooms(&self.lanes) as u16;
         let Some(did) = self.core.turn(room) else {
             return false;
         };
-        send(&mut self.requests, did);
+        send(rt, &mut self.lanes, did);
         true
     }
 
@@ -169,19 +180,23 @@ impl Agent for CoreAgent {
         self.number
     }
 
-    /// Takes a packet, tries to drain each strand, and executes once. A core whose strands have ended,
-    /// with empty buffers, says that it is done, and ends once the crossbar has ended.
-    fn turn(&mut self, flags: &Flags) -> Turned
+    /// Pushes what is kept, takes a packet, tries to drain each strand, and executes once. A core whose
+    /// strands have ended, with empty buffers, says that it is done, and ends once the crossbar has
+    /// ended.
+    fn turn<R: Wait>(&mut self, rt: &R, flags: &Flags) -> Turned
         ensures same { core_id self.new ≡ core_id self.old }
         ensures over { result ≡ Turned.Ended → is_core_over self.new ≡ true }
     {
-        let mut worked = self.take();
+        let mut worked = self.retry(rt);
+        if self.take() {
+            worked = true;
+        }
         for strand in 0..self.config.strands {
-            if self.drain(strand) {
+            if self.drain(rt, strand) {
                 worked = true;
             }
         }
-        if self.exec() {
+        if self.exec(rt) {
             worked = true;
         }
         if self.core.finished() {

@@ -13,6 +13,7 @@ use crate::numbers::{ALL_DESTINATIONS, CROSSBAR};
 use std::alloc::{AllocError, Global};
 use std::marker::Model;
 use std::snapshot::Snapshot;
+use std::sync::Wait;
 use t1_crew::{Agent, Flags, Turned};
 use t1_elf::Image;
 use t1_event::{Commit, Config};
@@ -174,7 +175,7 @@ impl Agent for CrossbarAgent {
 
     /// Tries to admit an access of each destination. The crossbar ends where all destinations had ended
     /// before it took nothing and holds nothing. For want of memory it gives the run up.
-    fn turn(&mut self, flags: &Flags) -> Turned
+    fn turn<R: Wait>(&mut self, _rt: &R, flags: &Flags) -> Turned
         ensures same { crossbar_id self.new ≡ crossbar_id self.old }
         ensures over { result ≡ Turned.Ended → is_over self.new ≡ true }
     {

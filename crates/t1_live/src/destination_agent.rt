@@ -1,8 +1,10 @@
 //! The agent of a destination.
-ghost use Rattle.std.specs.Prelude.{◌≡◌, ◌+◌, ◌<◌, ◌++◌, ◌∷◌, [], OnOk, true, IfOk};
+ghost use Rattle.std.specs.Prelude.{◌≡◌, ◌+◌, ◌<◌, ◌∷◌, [], true, IfOk};
+ghost use Rattle.std.specs.Arc.{arc_value};
 ghost use Rattle.t1_shape.specs.Shapes.Shape.{T1};
 ghost use Rattle.t1_shape.specs.Numbers.{destinations};
 ghost use Rattle.t1_machine.specs.Start.{IsRunnable, setup_of};
+ghost use Rattle.t1_live.specs.Lanes.{seats_of};
 ghost use Rattle.t1_live.specs.Rules.{served_with, bank_after_one, IsBank};
 ghost use Rattle.t1_live.specs.Sides.{destination_id, is_over};
 
@@ -10,32 +12,33 @@ use crate::numbers::{FIRST_DESTINATION, cores_of};
 use std::alloc::{AllocError, Global};
 use std::marker::Model;
 use std::snapshot::Snapshot;
+use std::sync::{Arc, Wait};
 use t1_bank::Bank;
 use t1_crew::{Agent, Flags, Turned};
 use t1_elf::Image;
 use t1_event::Config;
 use t1_iob::serve_io;
 use t1_packet::{Request, Served};
-use t1_ring::row::pop_any;
-use t1_ring::{Rx, Tx};
+use t1_ring::{DestSeat, RequestQueue, Tx};
 
-/// A destination, a bank or the I/O bridge, with the receiving ends of its requests, one from each
-/// core, and the sending end of what it serves.
+/// A destination, a bank or the I/O bridge, with its seat at the queue of its requests, and the sending
+/// end of what it serves.
 #[derive(Drop)]
 pub struct DestinationAgent {
     config: Config,
     image: Snapshot<Image>,
     dest: u8,
     bank: Option<Bank>,
-    next: usize,
-    pub(crate) requests: Vec<Rx<Request>>,
+    queue: Arc<RequestQueue, Global>,
+    pub(crate) seat: DestSeat,
     pub(crate) served: Tx<Served>,
 }
 
 impl Model for DestinationAgent {
-    ghost use Rattle.std.specs.Prelude.{[], ◌∷◌};
+    ghost use Rattle.std.specs.Prelude.{◌≡◌, [], ◌∷◌};
+    ghost use Rattle.std.specs.Arc.{arc_value};
     ghost use Rattle.t1_machine.specs.Start.{setup_of};
-    ghost use Rattle.t1_ring.specs.Row.{received_by, rx_marks};
+    ghost use Rattle.t1_live.specs.Lanes.{seats_of, by_core};
     ghost use Rattle.t1_live.specs.Rules.{IsDestinationSide};
     ghost use Rattle.t1_live.specs.Sides.{DestinationSide};
 
@@ -45,13 +48,13 @@ impl Model for DestinationAgent {
       setup = setup_of a.config a.image.value;
       dest = a.dest;
       bank = a.bank;
-      received = received_by a.requests.items;
+      received = by_core a.seat.taken 0 a.seat.cores;
       served = a.served.sent;
       to = a.served.mark ∷ [];
-      from = rx_marks a.requests.items;
+      from = seats_of a.seat.queue 0 a.seat.cores;
     } };
 
-    ghost invariant = { λ a. IsDestinationSide (setup_of a.config a.image.value) a.dest a.bank (received_by a.requests.items) a.served.sent };
+    ghost invariant = { λ a. IsDestinationSide (setup_of a.config a.image.value) a.dest a.bank (by_core a.seat.taken 0 a.seat.cores) a.served.sent × (a.seat.queue ≡ (arc_value a.queue).name) };
 }
 
 /// What came of trying to serve.
@@ -91,19 +94,23 @@ fn bank_of(
 }
 
 impl DestinationAgent {
-    /// A destination at its start, to which no core sends yet.
+    /// A destination at its start, with a queue from which it took nothing.
     pub(crate) fn new(
         alloc: Global,
         config: &Config,
         image: &Image,
         dest: u8,
+        queue: Arc<RequestQueue, Global>,
+        seat: DestSeat,
         served: Tx<Served>,
     ) -> Result<DestinationAgent, AllocError>
         requires runs { IsRunnable (setup_of config.now image.now) }
         requires dest { dest < destinations T1 }
+        requires queue { seat.queue ≡ (arc_value queue).name }
+        requires unused { seat.taken ≡ [] }
         requires none { served.sent ≡ [] }
         ensures none { IfOk result (λ a. a.served ≡ []) }
-        ensures id { IfOk result (λ a. destination_id a ≡ record { setup = setup_of config.now image.now; number = 8 + dest; to = served.mark ∷ []; from = [] }) }
+        ensures id { IfOk result (λ a. destination_id a ≡ record { setup = setup_of config.now image.now; number = 8 + dest; to = served.mark ∷ []; from = seats_of seat.queue 0 seat.cores }) }
     {
         let bank = bank_of(alloc, config, image, dest)?;
         Ok(DestinationAgent {
@@ -111,35 +118,22 @@ impl DestinationAgent {
             image: Snapshot::of(image),
             dest,
             bank,
-            next: 0,
-            requests: Vec::new(alloc),
+            queue,
+            seat,
             served,
         })
     }
 
-    /// One more core sends to it.
-    pub(crate) fn add(&mut self, end: Rx<Request>) -> Result<(), AllocError>
-        requires { end.received ≡ [] }
-        ensures served { self.new.served ≡ self.old.served }
-        ensures id { OnOk result (destination_id self.new ≡ record (destination_id self.old) { from = self.old.from ++ end.mark ∷ [] }) }
-    {
-        self.requests.push(end)?;
-        Ok(())
-    }
-
-    /// Serves one request, if one is known and there is room for what is served. The cores are tried in
-    /// a circle from one past the core that was served last.
-    fn serve(&mut self) -> Service
+    /// Serves the request that is there longest, if there is one and room for what is served.
+    fn serve<R: Wait>(&mut self, rt: &R) -> Service
         ensures { destination_id self.new ≡ destination_id self.old }
     {
         if self.served.room() == 0 {
             return Service::NoRoom;
         }
-        let Some(found) = pop_any(&mut self.requests, self.next) else {
+        let Some(request) = self.queue.pop(rt, &mut self.seat) else {
             return Service::NoRequest;
         };
-        let (core, request) = found;
-        self.next = core + 1;
         let served = serve_at(&mut self.bank, request);
         match self.served.push(served) {
             Ok(()) => {}
@@ -160,13 +154,13 @@ impl Agent for DestinationAgent {
         FIRST_DESTINATION + self.dest
     }
 
-    /// Serves a request. A destination ends where all cores were done before it knew of no request.
-    fn turn(&mut self, flags: &Flags) -> Turned
+    /// Serves a request. A destination ends where all cores were done before its queue was empty.
+    fn turn<R: Wait>(&mut self, rt: &R, flags: &Flags) -> Turned
         ensures same { destination_id self.new ≡ destination_id self.old }
         ensures over { result ≡ Turned.Ended → is_over self.new ≡ true }
     {
         let done = flags.are_done(cores_of(self.config.cores));
-        match self.serve() {
+        match self.serve(rt) {
             Service::Served => Turned::Worked,
             Service::NoRequest if done => {
                 flags.say_ended(FIRST_DESTINATION + self.dest);

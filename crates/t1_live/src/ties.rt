@@ -10,9 +10,10 @@ ghost use Rattle.t1_live.specs.Tying.{RowMeets, RowsMeet, ServedEndsMeet, Packet
 use crate::core_agent::CoreAgent;
 use crate::crossbar_agent::CrossbarAgent;
 use crate::destination_agent::DestinationAgent;
-use t1_ring::row::{tie_at, tie_rx, tie_tx};
+use crate::lane::tie_at;
+use t1_ring::row::{tie_rx, tie_tx};
 
-/// Ties the port from a core to a destination.
+/// Ties a core's lane to a destination.
 fn tie_request(core: &mut CoreAgent, dest: &mut DestinationAgent, at: usize, place: usize)
     requires here { at < length core.old.to }
     requires there { place < length dest.old.from }
@@ -20,7 +21,7 @@ fn tie_request(core: &mut CoreAgent, dest: &mut DestinationAgent, at: usize, pla
     ensures same { (core.new ≡ core.old) × (dest.new ≡ dest.old) }
     ensures tied { IsPrefix (get_or dest.new.received place []) (get_or core.new.sent at []) }
 {
-    tie_at(&mut core.requests, at, &mut dest.requests, place);
+    tie_at(&mut core.lanes, at, place, &mut dest.seat);
 }
 
 /// Ties the port from a destination to the crossbar.
@@ -52,7 +53,7 @@ fn stands(crossbar: &CrossbarAgent)
     let _ = &crossbar.served;
 }
 
-/// Ties the ports from one core to all destinations.
+/// Ties the lanes of one core to all destinations.
 #[tactic(auto, using(crate::proofs::Tied::set_back))]
 fn tie_row(core: &mut CoreAgent, dests: &mut Vec<DestinationAgent>, place: usize)
     requires { RowMeets core.old dests.old.items place }
@@ -65,7 +66,7 @@ fn tie_row(core: &mut CoreAgent, dests: &mut Vec<DestinationAgent>, place: usize
     }
 }
 
-/// Ties the ports from all cores to all destinations.
+/// Ties the lanes of all cores to all destinations.
 #[tactic(auto, using(crate::proofs::Tied::set_back))]
 fn tie_rows(cores: &mut Vec<CoreAgent>, dests: &mut Vec<DestinationAgent>)
     requires { RowsMeet cores.old.items dests.old.items }

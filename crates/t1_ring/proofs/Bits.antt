@@ -8,13 +8,13 @@ use Rattle.t1_ring.specs.Row.{has_bit}
 half : (r b : ℕ) → b < 2 → (2 * r + b) / 2 ≡ r
 half r b h = omega arith
 
-low : (r b : ℕ) → b < 2 → (2 * r + b) % 2 ≡ b
+pub low : (r b : ℕ) → b < 2 → (2 * r + b) % 2 ≡ b
 low r b h = omega arith
 
 pub has_room_zero : (r b : ℕ) → b < 2 → has_bit (2 * r + b) 0 ≡ true → b ≡ 1
 has_room_zero r b h e = let l = low r b h in grind (arith, nat_tests)
 
-higher : (r b i : ℕ) → b < 2 → (2 * r + b) / 2 ^ (i + 1) ≡ r / 2 ^ i
+pub higher : (r b i : ℕ) → b < 2 → (2 * r + b) / 2 ^ (i + 1) ≡ r / 2 ^ i
 higher r b i h =
     let two : 2 ^ (i + 1) ≡ 2 * 2 ^ i = omega (arith, pow_more 2 i) in
     ap (λ k. (2 * r + b) / k) two ∙ sym (div-div-eq-div-mul (2 * r + b) 2 (2 ^ i)) ∙ ap (λ k. k / 2 ^ i) (half r b h)

@@ -2,12 +2,16 @@
 use Rattle.std.specs.Prelude.{ℕ, List}
 use denote.RawPtr.{Ptr}
 use Rattle.rtrb.specs.Shared.{Names}
+use Rattle.atomic_table.specs.Seated.{TableId}
 
--- which port an end belongs to: the two ends of one port have one mark, and it never changes
-pub record Mark : Type 0 where
-  pub words : Ptr
-  pub slots : Ptr
-  pub names : Names
+-- which request queue it is: it never changes
+abbrev pub QueueName : Type 0
+QueueName = TableId
+
+-- what two ends have in common that meet: their port, or the queue and the core of a seat. It never changes
+pub data Mark : Type 0 where
+  Port : Ptr → Ptr → Names → Mark
+  Seat : QueueName → ℕ → Mark
 
 -- what was sent, and how many free slots the end knows of
 pub record TxState (T : Type 0) : Type 0 where

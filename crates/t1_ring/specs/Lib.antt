@@ -1,2 +1,4 @@
 pub mod Ends
 pub mod Row
+pub mod Queue
+pub mod QueueRule

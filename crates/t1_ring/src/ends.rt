@@ -14,11 +14,11 @@ pub struct Tx<T: Drop> {
 
 impl<T: Drop> Model for Tx<T> {
     ghost use Rattle.rtrb.specs.Ring.{sent, known_free};
-    ghost use Rattle.t1_ring.specs.Ends.{TxState};
+    ghost use Rattle.t1_ring.specs.Ends.{TxState, Port};
 
     ghost Value = { TxState T };
 
-    ghost view = { λ t. record { mark = record { words = t.end.end.words; slots = t.end.end.slots; names = t.end.end.names }; sent = sent t.end; room = known_free t.end } };
+    ghost view = { λ t. record { mark = Port t.end.end.words t.end.end.slots t.end.end.names; sent = sent t.end; room = known_free t.end } };
 }
 
 /// The receiving end of a port.
@@ -29,11 +29,11 @@ pub struct Rx<T: Drop> {
 
 impl<T: Drop> Model for Rx<T> {
     ghost use Rattle.rtrb.specs.Ring.{received, known_items};
-    ghost use Rattle.t1_ring.specs.Ends.{RxState};
+    ghost use Rattle.t1_ring.specs.Ends.{RxState, Port};
 
     ghost Value = { RxState T };
 
-    ghost view = { λ r. record { mark = record { words = r.end.end.words; slots = r.end.end.slots; names = r.end.end.names }; received = received r.end; known = known_items r.end } };
+    ghost view = { λ r. record { mark = Port r.end.end.words r.end.end.slots r.end.end.names; received = received r.end; known = known_items r.end } };
 }
 
 /// A port of so many slots, as its sending and its receiving end.

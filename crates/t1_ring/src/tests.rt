@@ -1,6 +1,9 @@
+ghost use Rattle.std.specs.Prelude.{◌≡◌};
+
 use crate::row::{pop_any, pop_at, ports, rooms, send_at, tie_at, tie_rx, tie_tx};
-use crate::{port, tie};
+use crate::{port, request_queue, tie};
 use std::test::Fail;
+use t1_packet::{Op, Request};
 
 #[test]
 fn what_is_sent_comes_in_order(rt: HostRuntime) -> Result<(), Fail> {
@@ -34,5 +37,38 @@ fn ends_in_a_row_are_tried_in_a_circle(rt: HostRuntime) -> Result<(), Fail> {
     assert_eq!(rt; pop_any(&mut receivers, 7), Some((0, 10)));
     assert_eq!(rt; pop_any(&mut receivers, 1), None);
     assert_eq!(rt; rooms(&mut senders), 0b111);
+    Ok(())
+}
+
+/// A request of core 0 for one of its items.
+fn request(item: u32) -> Request
+    ensures { result.core ≡ 0 }
+{
+    Request {
+        core: 0,
+        strand: 0,
+        item,
+        seen: 0,
+        op: Op::Load {
+            addr: 0,
+            size: 8,
+            way: 0,
+        },
+    }
+}
+
+#[test]
+fn a_queue_of_one_core_holds_two(rt: HostRuntime) -> Result<(), Fail> {
+    let (queue, seats, mut dest) = request_queue(rt.alloc(), 1)?;
+    let mut seats = seats.into_iter();
+    let mut seat = seats.next().expect(&rt, "a seat");
+    assert_eq!(rt; queue.push(&rt, &mut seat, request(1)), Ok(()));
+    assert_eq!(rt; queue.push(&rt, &mut seat, request(2)), Ok(()));
+    assert_eq!(rt; queue.push(&rt, &mut seat, request(3)), Err(request(3)));
+    queue.tie(&mut seat, &mut dest);
+    assert_eq!(rt; queue.pop(&rt, &mut dest), Some(request(1)));
+    assert_eq!(rt; queue.pop(&rt, &mut dest), Some(request(2)));
+    assert_eq!(rt; queue.pop(&rt, &mut dest), None);
+    queue.give_back(seat, &mut dest);
     Ok(())
 }

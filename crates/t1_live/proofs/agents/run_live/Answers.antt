@@ -8,6 +8,9 @@ use Rattle.t1_core.proofs.sparc_core.Core.TheSendSync as core
 use Rattle.t1_bank.proofs.bank.Bank.TheSendSync as bank
 use Rattle.t1_xbar.proofs.xbar.Xbar.TheSendSync as xbar
 use Rattle.t1_ring.proofs.ends.Tx.TheSendSync as tx
+use Rattle.t1_ring.proofs.queue.RequestQueue.TheSendSync as queue
+use Rattle.t1_ring.proofs.queue.CoreSeat.TheSendSync as core_seat
+use Rattle.t1_ring.proofs.queue.DestSeat.TheSendSync as dest_seat
 use Rattle.t1_ring.proofs.ends.Rx.TheSendSync as rx
 use Rattle.t1_joint.specs.Start.{Setup}
 use Rattle.t1_machine.specs.Start.{setup_of}
@@ -19,10 +22,10 @@ use Rattle.t1_live.proofs.Fitting.{ids_length}
 use Rattle.t1_live.proofs.agents.run_live.Goals as goal
 
 pub run_crew-requires-send-A : goal.run_crew-requires-send-A
-run_crew-requires-send-A g c κs within = search (sendable, crosses, core.the_send, tx.the_send, rx.the_send, request.the_send, packet.the_send) depth 40
+run_crew-requires-send-A g c κs within = search (sendable, crosses, core.the_send, queue.the_send, queue.the_sync, core_seat.the_send, rx.the_send, request.the_send, packet.the_send) depth 40
 
 pub run_crew-requires-send-B : goal.run_crew-requires-send-B
-run_crew-requires-send-B g c κs within = search (sendable, crosses, bank.the_send, tx.the_send, rx.the_send, request.the_send, served.the_send) depth 40
+run_crew-requires-send-B g c κs within = search (sendable, crosses, bank.the_send, queue.the_send, queue.the_sync, dest_seat.the_send, tx.the_send, served.the_send) depth 40
 
 pub run_crew-requires-send-C : goal.run_crew-requires-send-C
 run_crew-requires-send-C g c κs within = search (sendable, crosses, xbar.the_send, tx.the_send, rx.the_send, packet.the_send, served.the_send) depth 40

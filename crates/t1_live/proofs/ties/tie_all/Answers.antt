@@ -5,7 +5,7 @@ use Rattle.t1_live.proofs.Tied.{rows_meet, served_meet, packets_meet, ties_fit}
 use Rattle.t1_live.proofs.ties.tie_all.Goals as goal
 
 pub tie_rows-requires : goal.tie_rows-requires
-tie_rows-requires c = rows_meet c.args.crossbar.now.setup c.args.cores.now.items c.args.dests.now.items c.args.crossbar.now c.requires.wired
+tie_rows-requires c = rows_meet c.args.crossbar.now.setup c.args.cores.now.items c.args.dests.now.items c.args.crossbar.now c.requires.wired c.requires.full
 
 pub tie_all_served-requires : goal.tie_all_served-requires
 tie_all_served-requires c =
