@@ -1,4 +1,4 @@
-use Rattle.std.proofs.Common.{sym, ◌∙◌}
+use Rattle.std.proofs.Common.{sym}
 use Rattle.t1_cli.proofs.Verdicts.{task_answers, serves_asked, usage_of}
 use Rattle.t1_cli.proofs.serial.t1_serial.Goals as goal
 
@@ -14,5 +14,5 @@ returns-clause-line g c = record {
   verdict = c.serve-verdict.result;
   status_is = sym c.status.ensures;
   serves = serves_asked _ _ _ _ _ c.serve-verdict.result c.read_task-asked.ensures.value c.serve-verdict.ensures.serves;
-  told = rw (c.as_slice.ensures ∙ c.verdict_line.ensures) at c.tell.ensures;
+  told = c.tell.ensures;
 }
