@@ -13,7 +13,7 @@ use Rattle.t1_read.specs.Commits.{kill_tail_of, head_of}
 use Rattle.t1_read.specs.WellFormed.{IsGoodCommit, AreGoodCommits}
 use Rattle.t1_read.proofs.Taking.{followed, renamed}
 
-kill_text : (kill : KillData) → codes " " ++ kill_tail_of kill ≡ kill_field_of kill
+pub kill_text : (kill : KillData) → codes " " ++ kill_tail_of kill ≡ kill_field_of kill
 unfolding kill_tail_of kill_field_of
 kill_text kill = refl
 

@@ -29,7 +29,7 @@ blocks_join (suc k) bytes bs e l =
     ap (λ b. b ∷ blocks_from (suc k) (drop 32 (bytes ++ bs))) first
     ∙ ap (λ bl. take 32 bytes ∷ bl) (ap (blocks_from (suc k)) rest ∙ blocks_join k (drop 32 bytes) bs fewer l)
 
-unnumbered : (n : ℕ) (bytes : List ℕ) → console_line_of n bytes ≡ console_line_of 0 bytes
+pub unnumbered : (n : ℕ) (bytes : List ℕ) → console_line_of n bytes ≡ console_line_of 0 bytes
 unfolding console_line_of
 unnumbered n bytes = refl
 

@@ -51,11 +51,11 @@ lines_more k ram =
     ap (lines_from block_lines_of 0) (blocks_last k ram)
     ∙ (lines_last block_lines_of 0 (blocks_from k ram) (take 32 (drop (32 * k) ram)) ∙ ap (λ m. lines_up_to k ram ++ block_lines_of m (take 32 (drop (32 * k) ram))) n)
 
-blank_lines : (k : ℕ) (block : List ℕ) → is_blank block ≡ true → block_lines_of k block ≡ []
+pub blank_lines : (k : ℕ) (block : List ℕ) → is_blank block ≡ true → block_lines_of k block ≡ []
 unfolding block_lines_of
 blank_lines k block e = rw e refl
 
-some_lines : (k : ℕ) (block : List ℕ) → is_blank block ≡ false → block_lines_of k block ≡ block_line_of (32 * k) block
+pub some_lines : (k : ℕ) (block : List ℕ) → is_blank block ≡ false → block_lines_of k block ≡ block_line_of (32 * k) block
 unfolding block_lines_of
 some_lines k block e = rw e refl
 

@@ -1,6 +1,8 @@
 pub mod HexDigits
 pub mod Taking
 pub mod Numerals
+pub mod Finding
+pub mod Leaving
 pub mod ItemTexts
 pub mod ListTexts
 pub mod CommitTexts
@@ -9,3 +11,9 @@ pub mod ImageTexts
 pub mod Whole
 pub mod Words
 pub mod Printed
+pub mod HeadTexts
+pub mod ItemsFound
+pub mod StrandsFound
+pub mod ImageFound
+pub mod ConsoleFound
+pub mod ReportsFound

@@ -10,7 +10,7 @@ use Rattle.std.proofs.lemmas.List.{take_more, get_or-drop, get_or-take, length-d
 use Rattle.std.proofs.Common.{rules}
 use Rattle.t1_read.specs.Digits.{read_on, AreDigits}
 
-own : IsNumeralModel (λ ds. all_ascii_digits ds ≡ true) (read_on 0)
+pub own : IsNumeralModel (λ ds. all_ascii_digits ds ≡ true) (read_on 0)
 own = numerals_by_fold _ (search (rules)) read_on (search (rules))
 
 pub digits_are_decimal : (ds : List ℕ) → all_ascii_digits ds ≡ true → 0 < length ds → (get_or ds 0 0 ≡ 48 → length ds ≡ 1) → read_on 0 ds < 2 ^ 64 → decimal (read_on 0 ds) ≡ ds

@@ -6,3 +6,4 @@ pub mod Fields
 pub mod Image
 pub mod Commits
 pub mod WellFormed
+pub mod Exact

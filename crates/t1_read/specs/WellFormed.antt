@@ -47,6 +47,11 @@ pub record IsGoodCommit (cores : ℕ) (traces : List (List Item)) (index : ℕ) 
 abbrev pub AreGoodCommits : ℕ → List (List Item) → List Commit → Type 0
 AreGoodCommits cores traces log = (index : ℕ) (commit : Commit) → slice_get log index ≡ Some commit → IsGoodCommit cores traces index commit
 
+-- its strand and its item have the sizes of their fields
+pub record IsNamed (commit : Commit) : Type 0 where
+  pub strand : commit.strand ≤ 255
+  pub item : commit.item < 2 ^ 32
+
 -- ---- the memory order
 
 pub record IsGoodPlace (strands : ℕ) (place : Place) : Type 0 where

@@ -1,7 +1,12 @@
 //! The lines of commits.
-ghost use Rattle.std.specs.Prelude.{ℕ, ◌≡◌, ◌<◌, ◌≤◌, ◌+◌, [], length, get_or, slice_get, All, IfSome, IfNone, Some, Option};
-ghost use Rattle.t1_log.specs.Log.{cache_letter, kill_fields_of, way_field_of, evicted_field_of, commit_line_of};
-ghost use Rattle.t1_read.specs.Taken.{Reads, IsGood, Takes};
+ghost use Rattle.std.specs.Prelude.{ℕ, ◌≡◌, ◌^◌, ◌<◌, ◌≤◌, ◌+◌, ◌++◌, ◌∷◌, [], List, codes, length, drop, get_or, slice_get, false, IsTrue, All, IfSome, IfNone, Some, Option};
+ghost use Rattle.t1_log.specs.Log.{cache_letter, kill_field_of, kill_fields_of, way_field_of, evicted_field_of, commit_line_of};
+ghost use Rattle.t1_read.specs.Taken.{Reads, IsGood, Takes, EndsDigits, Leaves};
+ghost use Rattle.t1_read.specs.declared.commit.Named.{Named as NamedData};
+ghost use Rattle.t1_event.specs.declared.item.Item.{Item as ItemData};
+ghost use Rattle.t1_event.specs.declared.commit.Commit.{Commit as CommitData};
+ghost use Rattle.t1_packet.specs.Data.{KillData};
+ghost use Rattle.t1_packet.specs.declared.cache.Cache.{Cache as CacheData};
 ghost use Rattle.t1_read.specs.Commits.{kill_tail_of, head_of};
 ghost use Rattle.t1_read.specs.declared.cursor.Cursor.{Cursor as CursorData};
 ghost use Rattle.t1_event.specs.Items.{items_of};
@@ -17,6 +22,7 @@ use t1_packet::{Cache, Kill, Kills, Op};
 fn take_way(cursor: &mut Cursor, text: &[u8]) -> Option<u8>
     ensures good { IsGoodWay result }
     ensures takes { Takes text.now cursor.old cursor.new (way_field_of result) }
+    ensures finds { (way : Option ℕ) (rest : List ℕ) → IsGoodWay way → EndsDigits rest → drop cursor.old.at text.now ≡ way_field_of way ++ rest → (result ≡ way) × Leaves text.now cursor.old cursor.new rest }
 {
     if cursor.takes(text, b"-") {
         return None;
@@ -34,6 +40,7 @@ fn take_way(cursor: &mut Cursor, text: &[u8]) -> Option<u8>
 fn take_evicted(cursor: &mut Cursor, text: &[u8]) -> Option<u64>
     ensures good { IsGoodEvicted result }
     ensures takes { Takes text.now cursor.old cursor.new (evicted_field_of result) }
+    ensures finds { (evicted : Option ℕ) (rest : List ℕ) → IsGoodEvicted evicted → drop cursor.old.at text.now ≡ evicted_field_of evicted ++ rest → (result ≡ evicted) × Leaves text.now cursor.old cursor.new rest }
 {
     if cursor.takes(text, b"-") {
         None
@@ -44,7 +51,8 @@ fn take_evicted(cursor: &mut Cursor, text: &[u8]) -> Option<u64>
 
 /// Takes the letter of a cache.
 fn take_cache(cursor: &mut Cursor, text: &[u8]) -> Cache
-    ensures { Takes text.now cursor.old cursor.new (cache_letter result) }
+    ensures takes { Takes text.now cursor.old cursor.new (cache_letter result) }
+    ensures finds { (cache : CacheData) (rest : List ℕ) → drop cursor.old.at text.now ≡ cache_letter cache ++ rest → (result ≡ cache) × Leaves text.now cursor.old cursor.new rest }
 {
     if cursor.takes(text, b"d") {
         return Cache::Dcache;
@@ -60,6 +68,7 @@ fn take_kill(cursor: &mut Cursor, text: &[u8], cores: u8) -> Option<Kill>
     ensures good { IfSome result (IsGoodKill cores) }
     ensures takes { IfSome result (λ kill. Takes text.now cursor.old cursor.new (kill_tail_of kill)) }
     ensures none { IfNone result (IsGood cursor.new → ⊥) }
+    ensures finds { (kill : KillData) (rest : List ℕ) → IsGoodKill cores kill → EndsDigits rest → drop cursor.old.at text.now ≡ kill_tail_of kill ++ rest → (result ≡ Some kill) × Leaves text.now cursor.old cursor.new rest }
 {
     let core = cursor.number(text);
     cursor.word(text, b".");
@@ -83,6 +92,8 @@ fn take_next_kill(cursor: &mut Cursor, text: &[u8], cores: u8, kills: &mut Kills
     ensures good { All (IsGoodKill cores) kills.new }
     ensures few { length kills.new ≤ length kills.old + 1 }
     ensures takes { (start : CursorData) → Takes text.now start cursor.old (kill_fields_of kills.old) → Takes text.now start cursor.new (kill_fields_of kills.new) }
+    ensures finds { (kill : KillData) (rest : List ℕ) → IsGoodKill cores kill → EndsDigits rest → drop cursor.old.at text.now ≡ kill_field_of kill ++ rest → IsTrue result × (kills.new ≡ kills.old ++ kill ∷ []) × Leaves text.now cursor.old cursor.new rest }
+    ensures stops { (rest : List ℕ) → drop cursor.old.at text.now ≡ codes "\n" ++ rest → (result ≡ false) × (kills.new ≡ kills.old) × (cursor.new ≡ cursor.old) }
 {
     if !cursor.takes(text, b" ") {
         return false;
@@ -102,6 +113,7 @@ fn take_kills(cursor: &mut Cursor, text: &[u8], cores: u8) -> Kills<64>
     ensures good { All (IsGoodKill cores) result }
     ensures few { length result ≤ 64 }
     ensures takes { Takes text.now cursor.old cursor.new (kill_fields_of result) }
+    ensures finds { (kills : List KillData) (rest : List ℕ) → All (IsGoodKill cores) kills → length kills ≤ 64 → drop cursor.old.at text.now ≡ kill_fields_of kills ++ (codes "\n" ++ rest) → (result ≡ kills) × Leaves text.now cursor.old cursor.new (codes "\n" ++ rest) }
 {
     let mut kills = Kills::new();
     for count in 0..64usize {
@@ -166,7 +178,8 @@ fn old_of(item: &Item) -> u64
 
 /// The access of a strand that was committed with this index, and its core's time when it was sent.
 fn committed(traces: &[Trace], strand: u8, number: u32, index: usize) -> Option<(Item, u32)>
-    ensures { IfSome result (λ found. (slice_get (get_or (items_of traces.now) strand []) number ≡ Some found.0) × (found.0.how ≡ how.Commit index found.1)) }
+    ensures some { IfSome result (λ found. (slice_get (get_or (items_of traces.now) strand []) number ≡ Some found.0) × (found.0.how ≡ how.Commit index found.1)) }
+    ensures finds { (item : ItemData) (seen : ℕ) → slice_get (get_or (items_of traces.now) strand []) number ≡ Some item → item.how ≡ how.Commit index seen → result ≡ Some (item, seen) }
 {
     let item = item_at(traces, strand, number)?;
     let How::Commit { index: own, seen } = item.how else {
@@ -211,6 +224,7 @@ struct Named {
 fn take_named(cursor: &mut Cursor, text: &[u8], index: usize) -> Named
     ensures dest { result.dest ≤ 4 }
     ensures takes { Takes text.now cursor.old cursor.new (head_of index result) }
+    ensures finds { (named : NamedData) (rest : List ℕ) → named.dest ≤ 4 → named.strand ≤ 255 → named.number < 2 ^ 32 → drop cursor.old.at text.now ≡ head_of index named ++ rest → (result ≡ named) × Leaves text.now cursor.old cursor.new rest }
 {
     cursor.word(text, b"c ");
     cursor.exactly(text, index as u64);
@@ -247,6 +261,7 @@ pub(crate) fn take_commit(
     requires { cores ≤ 8 }
     ensures good { IfSome result (IsGoodCommit cores (items_of traces.now) index) }
     ensures reads { IfSome result (λ commit. Reads text.now cursor.old.at cursor.new.at (commit_line_of index commit)) }
+    ensures finds { (commit : CommitData) (rest : List ℕ) → IsGoodCommit cores (items_of traces.now) index commit → commit.strand ≤ 255 → commit.item < 2 ^ 32 → IsGood cursor.old → drop cursor.old.at text.now ≡ commit_line_of index commit ++ rest → (result ≡ Some commit) × Leaves text.now cursor.old cursor.new rest }
 {
     let named = take_named(cursor, text, index);
     let way = take_way(cursor, text);

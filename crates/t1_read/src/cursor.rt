@@ -1,6 +1,6 @@
 //! Fields of a line, taken one after another.
-ghost use Rattle.std.specs.Prelude.{ℕ, ◌≡◌, ◌<◌, ◌≤◌, ◌+◌, ◌*◌, ◌-◌, ◌^◌, ◌&&◌, ◌⊎◌, ◌++◌, List, length, take, drop, get_or, decimal, true, false, IsTrue, IfSome, MatchBool, MatchOption};
-ghost use Rattle.t1_read.specs.Taken.{Reads, Takes};
+ghost use Rattle.std.specs.Prelude.{ℕ, ◌≡◌, ◌<◌, ◌≤◌, ◌+◌, ◌*◌, ◌-◌, ◌^◌, ◌&&◌, ◌⊎◌, ◌++◌, List, length, take, drop, get_or, decimal, true, false, IsTrue, IfSome, IfNone, MatchBool, MatchOption};
+ghost use Rattle.t1_read.specs.Taken.{Reads, Takes, EndsDigits, Leaves, Finds};
 ghost use Rattle.t1_read.specs.Digits.{AreDigits};
 ghost use Rattle.t1_log.specs.Hex.{digit_of, hex_of};
 
@@ -48,7 +48,9 @@ impl Cursor {
     }
 
     /// The next byte, 0 at the end.
-    pub(crate) fn peek(&self, text: &[u8]) -> u8 {
+    pub(crate) fn peek(&self, text: &[u8]) -> u8
+        ensures { result ≡ get_or text.now self.now.at 0 }
+    {
         if self.at < text.len() {
             text[self.at]
         } else {
@@ -58,7 +60,11 @@ impl Cursor {
 
     /// Takes a word if it stands next.
     pub(crate) fn takes(&mut self, text: &[u8], word: &[u8]) -> bool
-        ensures { MatchBool result (Takes text.now self.old self.new word.now) (self.new ≡ self.old) }
+        ensures cases { MatchBool result (Takes text.now self.old self.new word.now) (self.new ≡ self.old) }
+        ensures stands { IsTrue result → Reads text.now self.old.at self.new.at word.now }
+        ensures moves { (self.new.at ≡ self.old.at) ⊎ (self.new.at ≡ self.old.at + length word.now) }
+        ensures kept { (self.new.form ≡ self.old.form) × (self.new.fits ≡ self.old.fits) }
+        ensures finds { (rest : List ℕ) → 0 < length word.now → drop self.old.at text.now ≡ word.now ++ rest → IsTrue result × Leaves text.now self.old self.new rest }
     {
         if stands(text, self.at, word) {
             self.at += word.len();
@@ -70,7 +76,9 @@ impl Cursor {
 
     /// Takes a word.
     pub(crate) fn word(&mut self, text: &[u8], word: &[u8])
-        ensures { Takes text.now self.old self.new word.now }
+        ensures takes { Takes text.now self.old self.new word.now }
+        ensures finds { 0 < length word.now → Finds text.now self.old self.new word.now }
+        ensures moves { (self.new.at ≡ self.old.at) ⊎ (self.new.at ≡ self.old.at + length word.now) }
     {
         if !self.takes(text, word) {
             self.form = false;
@@ -79,7 +87,8 @@ impl Cursor {
 
     /// Takes this number in decimal digits.
     pub(crate) fn exactly(&mut self, text: &[u8], number: u64)
-        ensures { Takes text.now self.old self.new (decimal number) }
+        ensures takes { Takes text.now self.old self.new (decimal number) }
+        ensures finds { Finds text.now self.old self.new (decimal number) }
     {
         let mut buffer = Buffer::new();
         self.word(text, buffer.format(number).as_bytes());
@@ -88,7 +97,8 @@ impl Cursor {
     /// Takes a decimal number without leading zeros. Where it is above 4294967295 it is out of range,
     /// and the greatest number of 32 bits stands for it.
     pub(crate) fn number(&mut self, text: &[u8]) -> u32
-        ensures { Takes text.now self.old self.new (decimal result) }
+        ensures takes { Takes text.now self.old self.new (decimal result) }
+        ensures finds { (n : ℕ) (rest : List ℕ) → n < 2 ^ 32 → EndsDigits rest → drop self.old.at text.now ≡ decimal n ++ rest → (result ≡ n) × Leaves text.now self.old self.new rest }
     {
         let start = self.at;
         let (value, end) = digits(text, start);
@@ -108,6 +118,7 @@ impl Cursor {
     pub(crate) fn hex(&mut self, text: &[u8], digits: usize) -> u64
         ensures fits { digits ≤ 16 → result < 2 ^ (4 * digits) }
         ensures takes { digits ≤ 16 → Takes text.now self.old self.new (hex_of digits result) }
+        ensures finds { (value : ℕ) (rest : List ℕ) → digits ≤ 16 → value < 2 ^ (4 * digits) → drop self.old.at text.now ≡ hex_of digits value ++ rest → (result ≡ value) × Leaves text.now self.old self.new rest }
     {
         let start = self.at;
         if digits > text.len().saturating_sub(start) {
@@ -131,6 +142,7 @@ impl Cursor {
 fn stands(text: &[u8], at: usize, word: &[u8]) -> bool
     ensures stands { IsTrue result → Reads text.now at (at + length word.now) word.now }
     ensures within { IsTrue result → at + length word.now ≤ length text.now }
+    ensures finds { (rest : List ℕ) → 0 < length word.now → drop at text.now ≡ word.now ++ rest → IsTrue result }
 {
     if at > text.len() {
         return false;
@@ -152,6 +164,8 @@ fn after<'a>(text: &'a [u8], word: &[u8]) -> Option<&'a [u8]>
 fn digits(text: &[u8], start: usize) -> (u64, usize)
     ensures after { start ≤ result.1 }
     ensures digits { AreDigits text.now start result.1 result.0 }
+    ensures ends { EndsDigits (drop result.1 text.now) }
+    ensures within { start ≤ length text.now → result.1 ≤ length text.now }
 {
     let mut value: u64 = 0;
     for at in start..text.len() {
@@ -167,7 +181,8 @@ fn digits(text: &[u8], start: usize) -> (u64, usize)
 
 /// Whether there are digits there, and no leading zero.
 fn is_canonical(text: &[u8], start: usize, end: usize) -> bool
-    ensures { IsTrue result → (start < end) × (start < length text.now) × ((get_or text.now start 0 ≡ 48 → ⊥) ⊎ (end - start ≡ 1)) }
+    ensures finds { start < end → start < length text.now → ((get_or text.now start 0 ≡ 48 → ⊥) ⊎ (end - start ≡ 1)) → IsTrue result }
+    ensures is { IsTrue result → (start < end) × (start < length text.now) × ((get_or text.now start 0 ≡ 48 → ⊥) ⊎ (end - start ≡ 1)) }
 {
     if end <= start || start >= text.len() {
         return false;
@@ -178,7 +193,8 @@ fn is_canonical(text: &[u8], start: usize, end: usize) -> bool
 /// The number of so many hexadecimal digits from a place on.
 fn hex_at(text: &[u8], at: usize, digits: usize) -> Option<u64>
     requires { digits ≤ length text.now - at }
-    ensures { IfSome result (λ value. digits ≤ 16 → (value < 2 ^ (4 * digits)) × (take digits (drop at text.now) ≡ hex_of digits value)) }
+    ensures some { IfSome result (λ value. digits ≤ 16 → (value < 2 ^ (4 * digits)) × (take digits (drop at text.now) ≡ hex_of digits value)) }
+    ensures none { IfNone result ((value : ℕ) → take digits (drop at text.now) ≡ hex_of digits value → ⊥) }
 {
     let mut value: u64 = 0;
     for place in 0..digits {
@@ -192,7 +208,8 @@ fn hex_at(text: &[u8], at: usize, digits: usize) -> Option<u64>
 
 /// The value of a hexadecimal digit in small letters.
 fn digit_value(byte: u8) -> Option<u8>
-    ensures { IfSome result (λ digit. (digit < 16) × (byte ≡ digit_of digit)) }
+    ensures some { IfSome result (λ digit. (digit < 16) × (byte ≡ digit_of digit)) }
+    ensures none { IfNone result ((digit : ℕ) → digit < 16 → byte ≡ digit_of digit → ⊥) }
 {
     if byte.is_ascii_digit() {
         Some(byte - b'0')

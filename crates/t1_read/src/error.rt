@@ -1,4 +1,6 @@
 //! Why a text is refused.
+ghost use Rattle.std.specs.Prelude.{◌≡◌};
+ghost use Rattle.t1_read.specs.declared.error.LogKind.TheVariants.{OutOfMemory};
 
 use std::alloc::AllocError;
 use thiserror::Error;
@@ -33,6 +35,8 @@ pub struct LogError {
 }
 
 impl From<AllocError> for LogError {
+    ghost from_gives = { λ _ e. e.kind ≡ OutOfMemory };
+
     fn from(_error: AllocError) -> LogError {
         LogError {
             line: 0,

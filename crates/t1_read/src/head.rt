@@ -1,12 +1,14 @@
 //! The lines of a log before its lists: the machine, where every strand starts, and the image.
 
-ghost use Rattle.std.specs.Prelude.{ℕ, ◌≡◌, ◌+◌, ◌-◌, ◌%◌, ◌≤◌, ◌&&◌, nat_le, nat_lt, if◌then◌else◌, length, get_or, IsTrue, IfSome};
+ghost use Rattle.std.specs.Prelude.{ℕ, ◌≡◌, ◌+◌, ◌-◌, ◌%◌, ◌≤◌, ◌&&◌, nat_le, nat_lt, if◌then◌else◌, ◌++◌, List, length, drop, get_or, IsTrue, IfSome, Some};
 ghost use Rattle.t1_log.specs.Hex.{hex_of_bytes};
 ghost use Rattle.t1_log.specs.Texts.{is_blank};
-ghost use Rattle.t1_read.specs.Image.{IsWritten};
+ghost use Rattle.t1_read.specs.Image.{IsWritten, IsBlockAt, HasBlock};
+ghost use Rattle.t1_num.specs.MemoryLaws.{AreBytes};
+ghost use Rattle.t1_event.specs.declared.report.Config.{Config as ConfigData};
 ghost use Rattle.t1_event.specs.Printable.{FitsDigits};
-ghost use Rattle.t1_log.specs.Lines.{config_line_of, entry_line_of};
-ghost use Rattle.t1_read.specs.Taken.{Reads, Takes};
+ghost use Rattle.t1_log.specs.Lines.{config_line_of, entry_line_of, block_line_of};
+ghost use Rattle.t1_read.specs.Taken.{Reads, IsGood, Takes, Leaves};
 ghost use Rattle.t1_read.specs.Limits.{is_ram, is_set_count, is_budget, is_in_limits};
 
 use crate::cursor::Cursor;
@@ -62,7 +64,8 @@ fn is_in_limits(config: &Config) -> bool
 
 /// The machine of these numbers, where they are in their limits.
 fn config_of(cores: u32, strands: u32, ram: u32, sets: u32, budget: u32) -> Option<Config>
-    ensures { IfSome result (λ config. (config ≡ record { cores = cores; strands = strands; ram = ram; sets = sets; budget = budget }) × IsTrue (is_in_limits config)) }
+    ensures some { IfSome result (λ config. (config ≡ record { cores = cores; strands = strands; ram = ram; sets = sets; budget = budget }) × IsTrue (is_in_limits config)) }
+    ensures finds { IsTrue (is_in_limits (record { cores = cores; strands = strands; ram = ram; sets = sets; budget = budget })) → result ≡ Some (record { cores = cores; strands = strands; ram = ram; sets = sets; budget = budget }) }
 {
     if cores > 8 || strands > 4 {
         return None;
@@ -86,6 +89,7 @@ fn config_of(cores: u32, strands: u32, ram: u32, sets: u32, budget: u32) -> Opti
 pub(crate) fn take_config(cursor: &mut Cursor, text: &[u8]) -> Option<Config>
     ensures limits { IfSome result (λ config. IsTrue (is_in_limits config)) }
     ensures reads { IfSome result (λ config. Reads text.now cursor.old.at cursor.new.at (config_line_of config)) }
+    ensures finds { (config : ConfigData) (rest : List ℕ) → IsTrue (is_in_limits config) → IsGood cursor.old → drop cursor.old.at text.now ≡ config_line_of config ++ rest → (result ≡ Some config) × Leaves text.now cursor.old cursor.new rest }
 {
     cursor.word(text, b"config cores ");
     let cores = cursor.number(text);
@@ -112,6 +116,7 @@ pub(crate) fn take_config(cursor: &mut Cursor, text: &[u8]) -> Option<Config>
 pub(crate) fn take_entry(cursor: &mut Cursor, text: &[u8]) -> Option<u64>
     ensures fits { IfSome result (FitsDigits 10) }
     ensures reads { IfSome result (λ entry. Reads text.now cursor.old.at cursor.new.at (entry_line_of entry)) }
+    ensures finds { (entry : ℕ) (rest : List ℕ) → FitsDigits 10 entry → IsGood cursor.old → drop cursor.old.at text.now ≡ entry_line_of entry ++ rest → (result ≡ Some entry) × Leaves text.now cursor.old cursor.new rest }
 {
     cursor.word(text, b"entry ");
     let entry = cursor.hex(text, 10);
@@ -131,6 +136,7 @@ pub(crate) fn take_block(
     ensures length { length ram.new ≡ length ram.old }
     ensures within { IfSome result (λ addr. addr + 32 ≤ length ram.old) }
     ensures wrote { IfSome result (λ addr. IsWritten text.now cursor.old.at cursor.new.at least ram.old ram.new addr) }
+    ensures finds { (addr : ℕ) (block rest : List ℕ) → IsBlockAt least (length ram.old) addr block → IsGood cursor.old → drop cursor.old.at text.now ≡ block_line_of addr block ++ rest → (result ≡ Some addr) × HasBlock ram.old ram.new addr block × Leaves text.now cursor.old cursor.new rest }
 {
     cursor.word(text, b"m ");
     let addr = cursor.hex(text, 10);
@@ -172,6 +178,7 @@ fn is_blank(block: &[u8]) -> bool
 fn take_bytes(cursor: &mut Cursor, text: &[u8]) -> [u8; 32]
     ensures count { length result ≡ 32 }
     ensures takes { Takes text.now cursor.old cursor.new (hex_of_bytes result) }
+    ensures finds { (bytes rest : List ℕ) → length bytes ≡ 32 → AreBytes bytes → drop cursor.old.at text.now ≡ hex_of_bytes bytes ++ rest → (result ≡ bytes) × Leaves text.now cursor.old cursor.new rest }
 {
     let mut block = [0; 32];
     for byte in 0..32usize {

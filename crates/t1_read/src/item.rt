@@ -1,5 +1,5 @@
 //! The lines of items.
-ghost use Rattle.std.specs.Prelude.{ℕ, ◌≡◌, ◌*◌, ◌<◌, ◌≤◌, ◌++◌, codes, decimal, not, true, false, IsTrue, IfSome, MatchBool, Some, Option};
+ghost use Rattle.std.specs.Prelude.{ℕ, ◌≡◌, ◌*◌, ◌^◌, ◌<◌, ◌≤◌, ◌++◌, codes, decimal, drop, not, Bool, true, false, IsTrue, IfSome, List, MatchBool, Some, Option};
 ghost use Rattle.t1_event.specs.Kinds.{is_access, is_read, is_changing};
 ghost use Rattle.t1_event.specs.Items.{IsIo};
 ghost use Rattle.t1_event.specs.Printable.{FitsDigits};
@@ -10,7 +10,12 @@ ghost use Rattle.t1_log.specs.Lines.{ending_fields_of, ending_line_of};
 ghost use Rattle.t1_log.specs.Log.{place_fields_of, item_line_of};
 ghost use Rattle.t1_event.specs.declared.item.ItemKind.TheVariants.{Atomic, Membar, Flush};
 ghost use Rattle.t1_read.specs.Items.{IsValueOf};
-ghost use Rattle.t1_read.specs.Taken.{Reads, IsGood, Takes};
+ghost use Rattle.t1_read.specs.Taken.{Reads, IsGood, Takes, EndsDigits, Leaves};
+ghost use Rattle.t1_read.specs.declared.item.Fields.{Fields as FieldsData};
+ghost use Rattle.t1_event.specs.declared.item.Item.{Item as ItemData};
+ghost use Rattle.t1_event.specs.declared.item.How.{How as HowData};
+ghost use Rattle.t1_event.specs.declared.item.How.TheVariants.{Commit as CommitHow};
+ghost use Rattle.t1_event.specs.declared.trace.Ending.{Ending as EndingData};
 ghost use Rattle.t1_read.specs.Fields.{AreFields, span_of, field_of, fields_of, item_from, access_line_of, kind_line_of};
 
 use crate::cursor::Cursor;
@@ -30,6 +35,7 @@ struct Fields {
 fn take_value(cursor: &mut Cursor, text: &[u8], size: u32) -> u64
     ensures fits { size ≤ 8 → FitsDigits (2 * size) result }
     ensures takes { size ≤ 8 → Takes text.now cursor.old cursor.new (hex_of (2 * size) result) }
+    ensures finds { (value : ℕ) (rest : List ℕ) → 1 ≤ size → size ≤ 8 → FitsDigits (2 * size) value → drop cursor.old.at text.now ≡ hex_of (2 * size) value ++ rest → (result ≡ value) × Leaves text.now cursor.old cursor.new rest }
 {
     if size == 0 {
         cursor.no_form();
@@ -43,6 +49,7 @@ fn take_value(cursor: &mut Cursor, text: &[u8], size: u32) -> u64
 fn take_how(cursor: &mut Cursor, text: &[u8]) -> How
     ensures place { IsPlaceOf true result }
     ensures takes { Takes text.now cursor.old cursor.new (place_fields_of result) }
+    ensures finds { (place : HowData) (rest : List ℕ) → IsPlaceOf true place → EndsDigits rest → drop cursor.old.at text.now ≡ place_fields_of place ++ rest → (result ≡ place) × Leaves text.now cursor.old cursor.new rest }
 {
     if cursor.takes(text, b" F ") {
         return How::Forward {
@@ -62,6 +69,7 @@ fn take_how(cursor: &mut Cursor, text: &[u8]) -> How
 fn take_commit_place(cursor: &mut Cursor, text: &[u8]) -> How
     ensures place { IsPlaceOf true result }
     ensures takes { Takes text.now cursor.old cursor.new (place_fields_of result) }
+    ensures finds { (index seen : ℕ) (rest : List ℕ) → index < 2 ^ 32 → seen < 2 ^ 32 → EndsDigits rest → drop cursor.old.at text.now ≡ place_fields_of (CommitHow index seen) ++ rest → (result ≡ CommitHow index seen) × Leaves text.now cursor.old cursor.new rest }
 {
     cursor.word(text, b" M ");
     let index = cursor.number(text);
@@ -74,6 +82,7 @@ fn take_commit_place(cursor: &mut Cursor, text: &[u8]) -> How
 fn take_span(cursor: &mut Cursor, text: &[u8]) -> (u64, u32)
     ensures fits { FitsDigits 10 result.0 }
     ensures takes { Takes text.now cursor.old cursor.new (span_of result.0 result.1) }
+    ensures finds { (addr size : ℕ) (rest : List ℕ) → FitsDigits 10 addr → size < 2 ^ 32 → drop cursor.old.at text.now ≡ span_of addr size ++ rest → (result.0 ≡ addr) × (result.1 ≡ size) × Leaves text.now cursor.old cursor.new rest }
 {
     let addr = cursor.hex(text, 10);
     cursor.word(text, b" ");
@@ -86,6 +95,7 @@ fn take_span(cursor: &mut Cursor, text: &[u8]) -> (u64, u32)
 fn take_field(cursor: &mut Cursor, text: &[u8], has: bool, size: u32) -> u64
     ensures value { size ≤ 8 → IsValueOf has size result }
     ensures takes { size ≤ 8 → Takes text.now cursor.old cursor.new (field_of has size result) }
+    ensures finds { (value : ℕ) (rest : List ℕ) → 1 ≤ size → size ≤ 8 → IsValueOf has size value → drop cursor.old.at text.now ≡ field_of has size value ++ rest → (result ≡ value) × Leaves text.now cursor.old cursor.new rest }
 {
     if has {
         take_value(cursor, text, size)
@@ -99,6 +109,7 @@ fn take_field(cursor: &mut Cursor, text: &[u8], has: bool, size: u32) -> u64
 fn take_fields(cursor: &mut Cursor, text: &[u8], reads: bool, writes: bool) -> Fields
     ensures fields { AreFields reads writes result }
     ensures takes { result.size ≤ 8 → Takes text.now cursor.old cursor.new (fields_of reads writes result) }
+    ensures finds { (fields : FieldsData) (rest : List ℕ) → AreFields reads writes fields → 1 ≤ fields.size → fields.size ≤ 8 → EndsDigits rest → drop cursor.old.at text.now ≡ fields_of reads writes fields ++ rest → (result ≡ fields) × Leaves text.now cursor.old cursor.new rest }
 {
     let (addr, size) = take_span(cursor, text);
     let got = take_field(cursor, text, reads, size);
@@ -118,6 +129,7 @@ fn take_fields(cursor: &mut Cursor, text: &[u8], reads: bool, writes: bool) -> F
 fn take_both(cursor: &mut Cursor, text: &[u8]) -> (bool, Fields)
     ensures fields { AreFields true result.0 result.1 }
     ensures takes { result.1.size ≤ 8 → Takes text.now cursor.old cursor.new (fields_of true result.0 result.1) }
+    ensures finds { (wrote : Bool) (fields : FieldsData) (rest : List ℕ) → AreFields true wrote fields → 1 ≤ fields.size → fields.size ≤ 8 → EndsDigits rest → drop cursor.old.at text.now ≡ fields_of true wrote fields ++ rest → (result.0 ≡ wrote) × (result.1 ≡ fields) × Leaves text.now cursor.old cursor.new rest }
 {
     let (addr, size) = take_span(cursor, text);
     let got = take_field(cursor, text, true, size);
@@ -147,7 +159,8 @@ fn is_io(addr: u64) -> bool
 /// Whether an access of this kind can have this size.
 fn is_size_of(kind: ItemKind, size: u32) -> bool
     requires { IsTrue (is_access kind) }
-    ensures { IsTrue result → IsSizeOf kind size }
+    ensures is { IsTrue result → IsSizeOf kind size }
+    ensures finds { IsSizeOf kind size → IsTrue result }
 {
     match kind {
         ItemKind::Fetch => size == 4,
@@ -158,7 +171,8 @@ fn is_size_of(kind: ItemKind, size: u32) -> bool
 /// Whether an access of this kind can have this address.
 fn is_reached(kind: ItemKind, addr: u64, ram: u64) -> bool
     requires { IsTrue (is_access kind) }
-    ensures { IsTrue result → IsReached ram kind addr }
+    ensures is { IsTrue result → IsReached ram kind addr }
+    ensures finds { IsReached ram kind addr → IsTrue result }
 {
     match kind {
         ItemKind::Load | ItemKind::Store => addr < ram || is_io(addr),
@@ -174,6 +188,7 @@ fn access_of(cursor: &mut Cursor, kind: ItemKind, fields: Fields, ram: u64) -> O
     ensures good { IfSome result (IsGoodItem ram) }
     ensures value { IfSome result (λ item. (item ≡ item_from kind fields) × (item.size ≤ 8)) }
     ensures cursor { IfSome result (λ _. (cursor.new ≡ cursor.old) × IsGood cursor.new) }
+    ensures finds { IsGoodItem ram (item_from kind fields) → IsGood cursor.old → (result ≡ Some (item_from kind fields)) × (cursor.new ≡ cursor.old) }
 {
     if !is_size_of(kind, fields.size)
         || fields.size > 8
@@ -212,6 +227,7 @@ fn take_access(
     requires writes { not reads ≡ is_changing kind }
     ensures good { IfSome result (IsGoodItem ram) }
     ensures reads { IfSome result (λ item. (item.kind ≡ kind) × IsGood cursor.new × Takes text.now cursor.old cursor.new (access_line_of item)) }
+    ensures finds { (item : ItemData) (rest : List ℕ) → ram ≤ 2 ^ 40 → IsGoodItem ram item → item.kind ≡ kind → IsGood cursor.old → drop cursor.old.at text.now ≡ access_line_of item ++ rest → (result ≡ Some item) × Leaves text.now cursor.old cursor.new rest }
 {
     let fields = take_fields(cursor, text, reads, !reads);
     cursor.word(text, b"\n");
@@ -222,6 +238,7 @@ fn take_access(
 fn take_atomic(cursor: &mut Cursor, text: &[u8], ram: u64) -> Option<Item>
     ensures good { IfSome result (IsGoodItem ram) }
     ensures reads { IfSome result (λ item. (item.kind ≡ Atomic (is_changing item.kind)) × IsGood cursor.new × Takes text.now cursor.old cursor.new (access_line_of item)) }
+    ensures finds { (item : ItemData) (wrote : Bool) (rest : List ℕ) → ram ≤ 2 ^ 40 → IsGoodItem ram item → item.kind ≡ Atomic wrote → IsGood cursor.old → drop cursor.old.at text.now ≡ access_line_of item ++ rest → (result ≡ Some item) × Leaves text.now cursor.old cursor.new rest }
 {
     let (wrote, fields) = take_both(cursor, text);
     cursor.word(text, b"\n");
@@ -247,6 +264,7 @@ fn barrier(kind: ItemKind, mask: u8) -> Item
 fn take_membar(cursor: &mut Cursor, text: &[u8]) -> Option<Item>
     ensures good { (ram : ℕ) → IfSome result (IsGoodItem ram) }
     ensures reads { IfSome result (λ item. ((item.kind ≡ Membar) × (item.how ≡ Unplaced)) × IsGood cursor.new × Takes text.now cursor.old cursor.new (hex_of 2 item.size ++ codes "\n")) }
+    ensures finds { (ram : ℕ) (item : ItemData) (rest : List ℕ) → IsGoodItem ram item → item.kind ≡ Membar → IsGood cursor.old → drop cursor.old.at text.now ≡ (hex_of 2 item.size ++ codes "\n") ++ rest → (result ≡ Some item) × Leaves text.now cursor.old cursor.new rest }
 {
     let mask = cursor.hex(text, 2);
     cursor.word(text, b"\n");
@@ -265,6 +283,7 @@ fn take_membar(cursor: &mut Cursor, text: &[u8]) -> Option<Item>
 fn take_flush(cursor: &mut Cursor, text: &[u8]) -> Option<Item>
     ensures good { (ram : ℕ) → IfSome result (IsGoodItem ram) }
     ensures reads { IfSome result (λ item. ((item.kind ≡ Flush) × (item.how ≡ Unplaced)) × IsGood cursor.new × Takes text.now cursor.old cursor.new (codes "flush\n")) }
+    ensures finds { (ram : ℕ) (item : ItemData) (rest : List ℕ) → IsGoodItem ram item → item.kind ≡ Flush → IsGood cursor.old → drop cursor.old.at text.now ≡ codes "flush\n" ++ rest → (result ≡ Some item) × Leaves text.now cursor.old cursor.new rest }
 {
     cursor.word(text, b"flush\n");
     if cursor.is_good() {
@@ -278,6 +297,7 @@ fn take_flush(cursor: &mut Cursor, text: &[u8]) -> Option<Item>
 fn take_kind(cursor: &mut Cursor, text: &[u8], ram: u64) -> Option<Item>
     ensures good { IfSome result (IsGoodItem ram) }
     ensures reads { IfSome result (λ item. IsGood cursor.new × Takes text.now cursor.old cursor.new (kind_line_of item)) }
+    ensures finds { (item : ItemData) (rest : List ℕ) → ram ≤ 2 ^ 40 → IsGoodItem ram item → IsGood cursor.old → drop cursor.old.at text.now ≡ kind_line_of item ++ rest → (result ≡ Some item) × Leaves text.now cursor.old cursor.new rest }
 {
     if cursor.takes(text, b"fetch ") {
         return take_access(cursor, text, ItemKind::Fetch, true, ram);
@@ -307,6 +327,7 @@ pub(crate) fn take_item(
 ) -> Option<Item>
     ensures good { IfSome result (IsGoodItem ram) }
     ensures reads { IfSome result (λ item. Reads text.now cursor.old.at cursor.new.at (item_line_of strand number item)) }
+    ensures finds { (item : ItemData) (rest : List ℕ) → ram ≤ 2 ^ 40 → IsGoodItem ram item → IsGood cursor.old → drop cursor.old.at text.now ≡ item_line_of strand number item ++ rest → (result ≡ Some item) × Leaves text.now cursor.old cursor.new rest }
 {
     cursor.word(text, b"i ");
     cursor.exactly(text, strand);
@@ -326,7 +347,8 @@ pub(crate) struct End {
 
 /// Takes the units and the PC of a strand that ended.
 fn take_units(cursor: &mut Cursor, text: &[u8]) -> (u32, u64)
-    ensures { Takes text.now cursor.old cursor.new (decimal result.0 ++ (codes " " ++ hex_of 16 result.1)) }
+    ensures takes { Takes text.now cursor.old cursor.new (decimal result.0 ++ (codes " " ++ hex_of 16 result.1)) }
+    ensures finds { (units pc : ℕ) (rest : List ℕ) → units < 2 ^ 32 → pc < 2 ^ 64 → drop cursor.old.at text.now ≡ (decimal units ++ (codes " " ++ hex_of 16 pc)) ++ rest → (result.0 ≡ units) × (result.1 ≡ pc) × Leaves text.now cursor.old cursor.new rest }
 {
     let units = cursor.number(text);
     cursor.word(text, b" ");
@@ -339,6 +361,7 @@ fn take_units(cursor: &mut Cursor, text: &[u8]) -> (u32, u64)
 fn take_ending(cursor: &mut Cursor, text: &[u8]) -> Option<End>
     ensures good { IfSome result (λ end. IsGoodEnd (Some end.ending)) }
     ensures takes { IfSome result (λ end. Takes text.now cursor.old cursor.new (ending_fields_of end.ending end.units end.pc)) }
+    ensures finds { (ending : EndingData) (units pc : ℕ) (rest : List ℕ) → IsGoodEnd (Some ending) → units < 2 ^ 32 → pc < 2 ^ 64 → drop cursor.old.at text.now ≡ ending_fields_of ending units pc ++ rest → (result ≡ Some (record { ending = ending; units = units; pc = pc })) × Leaves text.now cursor.old cursor.new rest }
 {
     if cursor.takes(text, b"halted ") {
         let (units, pc) = take_units(cursor, text);
@@ -375,6 +398,7 @@ fn take_ending(cursor: &mut Cursor, text: &[u8]) -> Option<End>
 pub(crate) fn take_end(cursor: &mut Cursor, text: &[u8], strand: u64) -> Option<End>
     ensures good { IfSome result (λ end. IsGoodEnd (Some end.ending)) }
     ensures reads { IfSome result (λ end. Reads text.now cursor.old.at cursor.new.at (ending_line_of strand end.ending end.units end.pc)) }
+    ensures finds { (ending : EndingData) (units pc : ℕ) (rest : List ℕ) → IsGoodEnd (Some ending) → units < 2 ^ 32 → pc < 2 ^ 64 → IsGood cursor.old → drop cursor.old.at text.now ≡ ending_line_of strand ending units pc ++ rest → (result ≡ Some (record { ending = ending; units = units; pc = pc })) × Leaves text.now cursor.old cursor.new rest }
 {
     cursor.word(text, b"e ");
     cursor.exactly(text, strand);

@@ -1,6 +1,13 @@
 //! Whole logs.
 
-ghost use Rattle.std.specs.Prelude.{ℕ, ◌≡◌, ◌*◌, ◌%◌, ◌<◌, ◌≤◌, true, length, drop, get_or, All, IsTrue, IfOk, IfSome};
+ghost use Rattle.std.specs.Prelude.{ℕ, ◌≡◌, ◌*◌, ◌%◌, ◌^◌, ◌<◌, ◌≤◌, ◌++◌, ⊤, true, List, length, drop, get_or, All, IsTrue, IfOk, IfSome};
+ghost use Rattle.t1_num.specs.MemoryLaws.{AreBytes};
+ghost use Rattle.t1_event.specs.declared.report.Config.{Config as ConfigData};
+ghost use Rattle.t1_event.specs.declared.commit.Commit.{Commit as CommitData};
+ghost use Rattle.t1_event.specs.declared.report.Place.{Place as PlaceData};
+ghost use Rattle.t1_read.specs.Exact.{IsRead, NextIsNot, HasBytes};
+ghost use Rattle.t1_event.specs.declared.report.Report.{Report as ReportData};
+ghost use Rattle.t1_read.specs.WellFormed.{IsNamed};
 ghost use Rattle.t1_log.specs.Lines.{config_line_of, entry_line_of};
 ghost use Rattle.t1_log.specs.Lines.{end_line};
 ghost use Rattle.t1_log.specs.Log.{version_line, commit_line_of, console_lines_of, text_of};
@@ -78,7 +85,8 @@ impl Lines {
 
 /// Reads the version line.
 fn read_version(lines: &mut Lines, text: &[u8]) -> Result<(), LogError>
-    ensures { IfOk result (λ _. Reads text.now lines.old.at lines.new.at version_line) }
+    ensures reads { IfOk result (λ _. Reads text.now lines.old.at lines.new.at version_line) }
+    ensures finds { (rest : List ℕ) → drop lines.old.at text.now ≡ version_line ++ rest → IsRead result (λ _. drop lines.new.at text.now ≡ rest) }
 {
     let mut cursor = lines.next();
     cursor.word(text, b"t1log 1\n");
@@ -96,6 +104,7 @@ fn read_version(lines: &mut Lines, text: &[u8]) -> Result<(), LogError>
 fn read_config(lines: &mut Lines, text: &[u8]) -> Result<Config, LogError>
     ensures limits { IfOk result (λ config. IsTrue (is_in_limits config)) }
     ensures reads { IfOk result (λ config. Reads text.now lines.old.at lines.new.at (config_line_of config)) }
+    ensures finds { (config : ConfigData) (rest : List ℕ) → IsTrue (is_in_limits config) → drop lines.old.at text.now ≡ config_line_of config ++ rest → IsRead result (λ c. (c ≡ config) × (drop lines.new.at text.now ≡ rest)) }
 {
     let mut cursor = lines.next();
     match take_config(&mut cursor, text) {
@@ -110,6 +119,7 @@ fn read_config(lines: &mut Lines, text: &[u8]) -> Result<Config, LogError>
 fn read_entry(lines: &mut Lines, text: &[u8]) -> Result<u64, LogError>
     ensures fits { IfOk result (FitsDigits 10) }
     ensures reads { IfOk result (λ entry. Reads text.now lines.old.at lines.new.at (entry_line_of entry)) }
+    ensures finds { (entry : ℕ) (rest : List ℕ) → FitsDigits 10 entry → drop lines.old.at text.now ≡ entry_line_of entry ++ rest → IsRead result (λ n. (n ≡ entry) × (drop lines.new.at text.now ≡ rest)) }
 {
     let mut cursor = lines.next();
     match take_entry(&mut cursor, text) {
@@ -127,6 +137,7 @@ fn read_image(lines: &mut Lines, text: &[u8], ram: &mut [u8]) -> Result<(), LogE
     requires zeros { (at : ℕ) → get_or ram.old at 0 ≡ 0 }
     ensures length { length ram.new ≡ length ram.old }
     ensures reads { IfOk result (λ _. Reads text.now lines.old.at lines.new.at (image_lines_of ram.new)) }
+    ensures finds { (all rest : List ℕ) → length all ≡ length ram.old → length all ≤ 2 ^ 40 → AreBytes all → NextIsNot 109 rest → drop lines.old.at text.now ≡ image_lines_of all ++ rest → IsRead result (λ _. (ram.new ≡ all) × (drop lines.new.at text.now ≡ rest)) }
 {
     let mut least = 0;
     for _line in 0..text.len() {
@@ -153,6 +164,7 @@ fn read_memory(
     requires { bytes % 32 ≡ 0 }
     ensures length { IfOk result (λ ram. length ram ≡ bytes) }
     ensures reads { IfOk result (λ ram. Reads text.now lines.old.at lines.new.at (image_lines_of ram)) }
+    ensures finds { (all rest : List ℕ) → length all ≡ bytes → length all ≤ 2 ^ 40 → AreBytes all → NextIsNot 109 rest → drop lines.old.at text.now ≡ image_lines_of all ++ rest → IsRead result (λ ram. (ram ≡ all) × (drop lines.new.at text.now ≡ rest)) }
 {
     let mut ram = Vec::from_elem(alloc, 0u8, bytes as usize)?;
     read_image(lines, text, ram.as_mut_slice())?;
@@ -170,12 +182,13 @@ fn read_commits(
     requires cores { cores ≤ 8 }
     ensures good { IfOk result (λ log. AreGoodCommits cores (items_of traces.now) log × (length log ≤ 67108864)) }
     ensures reads { IfOk result (λ log. Reads text.now lines.old.at lines.new.at (lines_from commit_line_of 0 log)) }
+    ensures finds { (all : List CommitData) (rest : List ℕ) → AreGoodCommits cores (items_of traces.now) all → All IsNamed all → NextIsNot 99 rest → drop lines.old.at text.now ≡ lines_from commit_line_of 0 all ++ rest → IsRead result (λ log. (log ≡ all) × (drop lines.new.at text.now ≡ rest)) }
 {
     let mut log = Listed::new(alloc);
     for index in 0..text.len() {
         let mut cursor = lines.next();
         if cursor.peek(text) != b'c' {
-            break;
+            return Ok(log);
         }
         match take_commit(&mut cursor, text, index, cores, traces) {
             Some(commit) => log.push(commit)?,
@@ -195,12 +208,13 @@ fn read_order(
     requires { strands ≤ 256 }
     ensures good { IfOk result (All (IsGoodPlace strands)) }
     ensures reads { IfOk result (λ order. Reads text.now lines.old.at lines.new.at (order_lines_of order)) }
+    ensures finds { (all : List PlaceData) (rest : List ℕ) → All (IsGoodPlace strands) all → NextIsNot 111 rest → drop lines.old.at text.now ≡ order_lines_of all ++ rest → IsRead result (λ order. (order ≡ all) × (drop lines.new.at text.now ≡ rest)) }
 {
     let mut order = Listed::new(alloc);
     for _line in 0..text.len() {
         let mut cursor = lines.next();
         if cursor.peek(text) != b'o' {
-            break;
+            return Ok(order);
         }
         match take_place(&mut cursor, text, strands) {
             Some(place) => order.push(place)?,
@@ -213,7 +227,8 @@ fn read_order(
 
 /// Reads the lines of the console, up to a short one.
 fn read_console(alloc: Global, lines: &mut Lines, text: &[u8]) -> Result<Listed<u8>, LogError>
-    ensures { IfOk result (λ console. Reads text.now lines.old.at lines.new.at (console_lines_of console)) }
+    ensures reads { IfOk result (λ console. Reads text.now lines.old.at lines.new.at (console_lines_of console)) }
+    ensures finds { (all rest : List ℕ) → AreBytes all → NextIsNot 107 rest → drop lines.old.at text.now ≡ console_lines_of all ++ rest → IsRead result (λ console. (console ≡ all) × (drop lines.new.at text.now ≡ rest)) }
 {
     let mut console = Listed::new(alloc);
     let mut full = true;
@@ -238,7 +253,8 @@ fn read_console(alloc: Global, lines: &mut Lines, text: &[u8]) -> Result<Listed<
 
 /// Reads the last line, behind which nothing stands.
 fn read_end(lines: &mut Lines, text: &[u8]) -> Result<(), LogError>
-    ensures { IfOk result (λ _. drop lines.old.at text.now ≡ end_line) }
+    ensures is { IfOk result (λ _. drop lines.old.at text.now ≡ end_line) }
+    ensures finds { drop lines.old.at text.now ≡ end_line → IsRead result (λ _. ⊤) }
 {
     let mut cursor = lines.next();
     cursor.word(text, b"end\n");
@@ -267,6 +283,7 @@ pub fn read_log(alloc: Global, text: &[u8]) -> Result<Report, LogError>
     requires { length text.now ≤ 67108864 }
     ensures formed { IfOk result IsWellFormed }
     ensures text { IfOk result (λ report. text.now ≡ text_of report) }
+    ensures exact { (report : ReportData) → IsWellFormed report → HasBytes report → text.now ≡ text_of report → IsRead result (λ r. r ≡ report) }
 {
     let mut lines = Lines { at: 0, count: 0 };
     read_version(&mut lines, text)?;

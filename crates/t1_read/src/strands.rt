@@ -1,16 +1,47 @@
 //! The lines of strands.
-ghost use Rattle.std.specs.Prelude.{ℕ, ◌≡◌, ◌≤◌, length, All, IfOk};
+ghost use Rattle.std.specs.Prelude.{ℕ, ◌≡◌, ◌^◌, ◌≤◌, ◌++◌, List, length, drop, All, IfOk};
+ghost use Rattle.t1_event.specs.declared.item.Item.{Item as ItemData};
+ghost use Rattle.t1_event.specs.declared.trace.Trace.{Trace as TraceData};
+ghost use Rattle.t1_read.specs.Exact.{IsRead, NextIsNot};
 ghost use Rattle.t1_log.specs.Texts.{lines_from};
-ghost use Rattle.t1_log.specs.Log.{trace_lines_of};
+ghost use Rattle.t1_log.specs.Log.{item_line_of, trace_lines_of};
 ghost use Rattle.t1_read.specs.Taken.{Reads};
-ghost use Rattle.t1_read.specs.Items.{IsGoodTrace};
+ghost use Rattle.t1_read.specs.Items.{IsGoodItem, IsGoodTrace};
 
 use crate::error::LogError;
 use crate::item::{take_end, take_item};
 use crate::reader::Lines;
 use std::alloc::Global;
 use t1_elf::Listed;
-use t1_event::Trace;
+use t1_event::{Item, Trace};
+
+/// Reads the lines of the items of a strand.
+fn read_items(
+    alloc: Global,
+    lines: &mut Lines,
+    text: &[u8],
+    strand: u64,
+    ram: u64,
+) -> Result<Listed<Item>, LogError>
+    requires { length text.now ≤ 67108864 }
+    ensures good { IfOk result (λ items. All (IsGoodItem ram) items × (length items ≤ 67108864)) }
+    ensures reads { IfOk result (λ items. Reads text.now lines.old.at lines.new.at (lines_from (item_line_of strand) 0 items)) }
+    ensures finds { (all : List ItemData) (rest : List ℕ) → ram ≤ 2 ^ 40 → All (IsGoodItem ram) all → NextIsNot 105 rest → drop lines.old.at text.now ≡ lines_from (item_line_of strand) 0 all ++ rest → IsRead result (λ items. (items ≡ all) × (drop lines.new.at text.now ≡ rest)) }
+{
+    let mut items = Listed::new(alloc);
+    for number in 0..text.len() as u64 {
+        let mut cursor = lines.next();
+        if cursor.peek(text) != b'i' {
+            return Ok(items);
+        }
+        match take_item(&mut cursor, text, strand, number, ram) {
+            Some(item) => items.push(item)?,
+            None => return Err(lines.fault(text, cursor)),
+        }
+        lines.went(cursor);
+    }
+    Ok(items)
+}
 
 /// Reads the lines of a strand: its items, and its end.
 fn read_strand(
@@ -23,19 +54,9 @@ fn read_strand(
     requires { length text.now ≤ 67108864 }
     ensures good { IfOk result (IsGoodTrace ram) }
     ensures reads { IfOk result (λ trace. Reads text.now lines.old.at lines.new.at (trace_lines_of strand trace)) }
+    ensures finds { (trace : TraceData) (rest : List ℕ) → ram ≤ 2 ^ 40 → IsGoodTrace ram trace → drop lines.old.at text.now ≡ trace_lines_of strand trace ++ rest → IsRead result (λ t. (t ≡ trace) × (drop lines.new.at text.now ≡ rest)) }
 {
-    let mut items = Listed::new(alloc);
-    for number in 0..text.len() as u64 {
-        let mut cursor = lines.next();
-        if cursor.peek(text) != b'i' {
-            break;
-        }
-        match take_item(&mut cursor, text, strand, number, ram) {
-            Some(item) => items.push(item)?,
-            None => return Err(lines.fault(text, cursor)),
-        }
-        lines.went(cursor);
-    }
+    let items = read_items(alloc, lines, text, strand, ram)?;
     let mut cursor = lines.next();
     match take_end(&mut cursor, text, strand) {
         Some(end) => {
@@ -62,6 +83,7 @@ pub(crate) fn read_strands(
     requires { length text.now ≤ 67108864 }
     ensures good { IfOk result (λ traces. All (IsGoodTrace ram) traces × (length traces ≡ strands)) }
     ensures reads { IfOk result (λ traces. Reads text.now lines.old.at lines.new.at (lines_from trace_lines_of 0 traces)) }
+    ensures finds { (all : List TraceData) (rest : List ℕ) → ram ≤ 2 ^ 40 → All (IsGoodTrace ram) all → length all ≡ strands → drop lines.old.at text.now ≡ lines_from trace_lines_of 0 all ++ rest → IsRead result (λ traces. (traces ≡ all) × (drop lines.new.at text.now ≡ rest)) }
 {
     let mut traces = Listed::new(alloc);
     for strand in 0..strands {

@@ -17,6 +17,7 @@ use Rattle.t1_machine_rule.specs.Stands.{IsRunOf}
 use Rattle.t1_machine_rule.specs.Ends.{NoneEnabled, report_of}
 use Rattle.t1_read.specs.Limits.{is_in_limits}
 use Rattle.t1_read.specs.WellFormed.{IsWellFormed}
+use Rattle.t1_read.specs.Exact.{HasBytes}
 
 -- the units and the PC of a trace are words of 32 and of 64 bits, as their types say
 pub record AreWords (trace : Trace) : Type 0 where
@@ -35,8 +36,13 @@ JointHistoriesAreWellFormed =
     → IsTrue (is_in_limits w.config) → All AreWords traces → length log < 2 ^ 32 → IsListing (items_of traces) order
     → IsPrintableReport (reported w traces log order console) → IsWellFormed (reported w traces log order console)
 
+-- its log reads as itself: it is well formed, and its memory and its console hold bytes
+pub record ReadsBack (report : Report) : Type 0 where
+  pub formed : IsWellFormed report
+  pub bytes : HasBytes report
+
 -- a machine in its limits that slots led to where none is enabled, with the order of its accesses by keys
 abbrev pub ReportsAreWellFormed : Type 0
 ReportsAreWellFormed =
     (w : Setup) (m : MachineState) (order : List Place) → IsRunOf w m → NoneEnabled m → IsOrderByKeys (items_of (traces_in m.cores)) order
-    → IsTrue (is_in_limits w.config) → FitsDigits 10 w.image.entry → All AreWords (traces_in m.cores) → IsWellFormed (report_of w m order)
+    → IsTrue (is_in_limits w.config) → FitsDigits 10 w.image.entry → All AreWords (traces_in m.cores) → ReadsBack (report_of w m order)

@@ -1,42 +1,60 @@
-use Rattle.std.proofs.Common.{◌≡◌, ◌∙◌, ◌++◌, ◌∷◌, [], length, All, ap, sym, subst, arith}
-use Rattle.std.proofs.lemmas.List.{length-append}
-use Rattle.std.proofs.lemmas.List.Elements.{All-push}
-use Rattle.t1_log.specs.Log.{item_line_of}
+use Rattle.std.proofs.Common.{◌≡◌, ◌∙◌, ◌++◌, ℕ, List, drop, Option, Some, ap, sym, subst}
+use Rattle.std.proofs.lemmas.Option.{same_Some, none-some}
+use Rattle.std.proofs.lemmas.Result.{err_from_is_err_and}
+use Rattle.t1_event.specs.declared.trace.Ending.{Ending}
 use Rattle.t1_log.specs.Texts.{lines_from}
+use Rattle.t1_log.specs.Log.{item_line_of}
 use Rattle.t1_log.specs.Lines.{ending_line_of}
 use Rattle.t1_read.specs.declared.cursor.Cursor.{Cursor}
+use Rattle.t1_read.specs.declared.item.End.{End}
 use Rattle.t1_read.specs.Taken.{Reads}
-use Rattle.t1_read.specs.Items.{IsGoodItem}
 use Rattle.t1_read.proofs.Taking.{reads_then}
+use Rattle.t1_read.proofs.Finding.{next}
 use Rattle.t1_read.proofs.ItemTexts.{trace_text}
-use Rattle.t1_read.proofs.ListTexts.{all_none, start_read, one_more_read, reads_between}
+use Rattle.t1_read.proofs.ListTexts.{reads_between}
+use Rattle.t1_read.proofs.Leaving.{begun_good, begun_at}
+use Rattle.t1_read.proofs.StrandsFound.{has_ended, trace_is, end_next}
 use Rattle.t1_read.proofs.strands.read_strand.Goals as goal
 
-pub loop-number-init : goal.loop-number-init
-loop-number-init c = record {
-  good = all_none (IsGoodItem c.args.ram) c.new-items.result c.new-items.ensures;
-  count = ap length c.new-items.ensures;
-  reads = start_read c.args.text.now c.args.lines.now.at (item_line_of c.args.strand) c.new-items.result c.new-items.ensures;
-}
+pub returns-in_err-items-clause-finds : goal.returns-in_err-items-clause-finds
+returns-in_err-items-clause-finds c = λ trace rest small good e.
+    let end = has_ended trace.ending good.ended in
+    let tail : List ℕ = ending_line_of c.args.strand end.ending trace.units trace.pc ++ rest in
+    let here = next _ (lines_from (item_line_of c.args.strand) 0 trace.items) (ending_line_of c.args.strand end.ending trace.units trace.pc) rest (e ∙ ap (λ (t : List ℕ). t ++ rest) (trace_is c.args.strand trace end.ending end.is)) in
+    let after = end_next c.args.strand end.ending trace.units trace.pc rest in
+    let found = c.in_err-items.ensures.finds trace.items tail small good.items after here in
+    let p = err_from_is_err_and c.from_residual.result c.from_residual.ensures.1 in
+    rw (p.1, p.2) found
 
-pub loop-number-preserved : goal.loop-number-preserved
-loop-number-preserved c =
-    let longer : c.push.new.self ≡ c.loop-number.items ++ c.in-Some.item ∷ [] = c.in_ok-push-in-Some.ensures.ok in
-    let line = item_line_of c.args.strand c.loop-number.number c.in-Some.item in
-    let here : Reads c.args.text.now c.loop-number.lines.at c.went.new.self.at line =
-    reads_between c.args.text.now line _ _ _ _ (ap (λ (k : Cursor). k.at) c.next-cursor.ensures) (sym c.went.ensures) c.in-Some.ensures.reads in
-    record {
-      good = subst (All (IsGoodItem c.args.ram)) (sym longer) (All-push (IsGoodItem c.args.ram) c.loop-number.items c.in-Some.item c.loop-number.invariant.good c.in-Some.ensures.good);
-      count = omega (arith, ap length longer ∙ length-append c.loop-number.items (c.in-Some.item ∷ []), c.loop-number.invariant.count);
-      reads = one_more_read c.args.text.now c.args.lines.now.at c.loop-number.lines.at c.went.new.self.at (item_line_of c.args.strand) c.loop-number.items c.in-Some.item c.loop-number.number c.push.new.self
-          c.loop-number.invariant.reads (sym c.loop-number.invariant.count) here longer;
-    }
-
-pub returns-in-Some-take_end-clause-reads : goal.returns-in-Some-take_end-clause-reads
-returns-in-Some-take_end-clause-reads c =
-    let end = c.in-Some-take_end.end in
+pub returns-in-Some-clause-reads : goal.returns-in-Some-clause-reads
+returns-in-Some-clause-reads c =
+    let end = c.in-Some.end in
+    let items = c.in_ok-items.items in
     let line = ending_line_of c.args.strand end.ending end.units end.pc in
-    let here : Reads c.args.text.now c.loop-number.lines.at c.went-in-Some-take_end.new.self.at line =
-    reads_between c.args.text.now line _ _ _ _ (ap (λ (k : Cursor). k.at) c.next-cursor-2.ensures) (sym c.went-in-Some-take_end.ensures) c.in-Some-take_end.ensures.reads in
-    subst (Reads c.args.text.now c.args.lines.now.at c.went-in-Some-take_end.new.self.at) (trace_text c.args.strand c.loop-number.items end.units end.pc end.ending)
-    (reads_then c.args.text.now c.args.lines.now.at c.loop-number.lines.at c.went-in-Some-take_end.new.self.at (lines_from (item_line_of c.args.strand) 0 c.loop-number.items) line c.loop-number.invariant.reads here)
+    let here : Reads c.args.text.now c.read_items.new.lines.at c.went.new.self.at line =
+    reads_between c.args.text.now line _ _ _ _ (ap (λ (k : Cursor). k.at) c.next-cursor.ensures) (sym c.went.ensures) c.in-Some.ensures.reads in
+    subst (Reads c.args.text.now c.args.lines.now.at c.went.new.self.at) (trace_text c.args.strand items end.units end.pc end.ending)
+    (reads_then c.args.text.now c.args.lines.now.at c.read_items.new.lines.at c.went.new.self.at (lines_from (item_line_of c.args.strand) 0 items) line c.in_ok-items.ensures.reads here)
+
+pub returns-in-Some-clause-finds : goal.returns-in-Some-clause-finds
+returns-in-Some-clause-finds c = λ trace rest small good e.
+    let end = has_ended trace.ending good.ended in
+    let tail : List ℕ = ending_line_of c.args.strand end.ending trace.units trace.pc ++ rest in
+    let here = next _ (lines_from (item_line_of c.args.strand) 0 trace.items) (ending_line_of c.args.strand end.ending trace.units trace.pc) rest (e ∙ ap (λ (t : List ℕ). t ++ rest) (trace_is c.args.strand trace end.ending end.is)) in
+    let after = end_next c.args.strand end.ending trace.units trace.pc rest in
+    let items = c.in_ok-items.ensures.finds trace.items tail small good.items after here in
+    let found = c.in-Some.ensures.finds end.ending trace.units trace.pc rest end.good good.units good.pc (begun_good c.next-cursor.result _ c.next-cursor.ensures) (begun_at c.args.text.now c.next-cursor.result _ _ c.next-cursor.ensures items.1) in
+    let same : c.in-Some.end ≡ record { ending = end.ending; units = trace.units; pc = trace.pc } = same_Some _ _ found.0 in
+    let ending_is : ◌≡◌ {A = Option Ending} (Some c.in-Some.end.ending) trace.ending = ap (λ (k : End). Some k.ending) same ∙ sym end.is in (
+      λ i. record { items = items.0 i; units = (same i).units; pc = (same i).pc; ending = ending_is i },
+      ap (λ (k : ℕ). drop k c.args.text.now) c.went.ensures ∙ found.1.rest_is,
+    )
+
+pub returns-in-None-clause-finds : goal.returns-in-None-clause-finds
+returns-in-None-clause-finds c = λ trace rest small good e.
+    let end = has_ended trace.ending good.ended in
+    let tail : List ℕ = ending_line_of c.args.strand end.ending trace.units trace.pc ++ rest in
+    let here = next _ (lines_from (item_line_of c.args.strand) 0 trace.items) (ending_line_of c.args.strand end.ending trace.units trace.pc) rest (e ∙ ap (λ (t : List ℕ). t ++ rest) (trace_is c.args.strand trace end.ending end.is)) in
+    let after = end_next c.args.strand end.ending trace.units trace.pc rest in
+    let items = c.in_ok-items.ensures.finds trace.items tail small good.items after here in
+    absurd (none-some _ (c.in-None.ensures.finds end.ending trace.units trace.pc rest end.good good.units good.pc (begun_good c.next-cursor.result _ c.next-cursor.ensures) (begun_at c.args.text.now c.next-cursor.result _ _ c.next-cursor.ensures items.1)).0)
