@@ -1,16 +1,16 @@
 -- How strands ended, one after another, and what a verdict of it says.
-use Rattle.std.proofs.Common.{◌≡◌, ◌∙◌, ℕ, suc, ◌+◌, ◌<◌, false, List, [], ◌∷◌, length, drop, get_or, Option, Some, None, Result, Ok, Err, refl, ap, sym, subst, arith}
-use Rattle.std.specs.Prelude.{OnOk, IfSome, is_err, unwrap_or}
+use Rattle.std.proofs.Common.{◌≡◌, ◌∙◌, ℕ, suc, ◌+◌, ◌<◌, false, List, [], ◌∷◌, length, drop, get_or, Option, Some, None, Result, refl, ap, sym, subst, arith}
+use Rattle.std.specs.Prelude.{OnOk, is_err, unwrap_or, ⊤}
 use Rattle.std.proofs.Math.Seq.{drop-cons}
-use Rattle.t1_io.specs.Held.{Grew}
+use Rattle.t1_io.specs.Held.{Grew, GrewPart}
 use Rattle.t1_event.specs.declared.report.Report.{Report}
 use Rattle.t1_event.specs.declared.trace.Trace.{Trace}
 use Rattle.t1_event.specs.declared.trace.Ending.{Ending}
 use Rattle.t1_event.specs.declared.trace.Ending.TheVariants as ending
-use Rattle.t1_cli.specs.declared.command.Run.{Run}
+use Rattle.t1_cli.specs.declared.refusal.Refusal.{Refusal}
 use Rattle.t1_cli.specs.declared.verdict.Verdict.{Verdict}
 use Rattle.t1_cli.specs.declared.verdict.Verdict.TheVariants as verdict
-use Rattle.t1_cli.specs.Runs.{IsReportOfInput, printed_of, fault_of, spent_of, first_of, fault_from, spent_from, ended_of}
+use Rattle.t1_cli.specs.Runs.{fault_of, spent_of, first_of, fault_from, spent_from, ended_of}
 use Rattle.t1_cli.specs.Serial.{HasNoText}
 use Rattle.t1_cli.specs.Statuses.{status_of_verdict}
 use Rattle.t1_cli.specs.Verdict.{RanTo, EndedIn, Judged}
@@ -91,16 +91,17 @@ is_end traces =
     one_ends (fault_from 0 traces) (unwrap_or (spent_from 0 traces) verdict.Good) (faults_end 0 traces)
     (one_ends (spent_from 0 traces) verdict.Good (spents_end 0 traces) tt)
 
-end_judged : (run : Run) (input : List ℕ) (old new : Option (List ℕ)) (v : Verdict) → IsEnd v → RanTo run input (EndedIn v) (Grew old new) → Judged run input old new v
-end_judged run input old new verdict.Good end ran = ran
-end_judged run input old new (verdict.Fault strand number pc) end ran = ran
-end_judged run input old new (verdict.Spent strand) end ran = ran
-end_judged run input old new verdict.Usage end ran = absurd end
-end_judged run input old new (verdict.Refused why) end ran = absurd end
-end_judged run input old new verdict.ReadFault end ran = absurd end
-end_judged run input old new verdict.WriteFault end ran = absurd end
-end_judged run input old new verdict.OutOfMemory end ran = absurd end
-end_judged run input old new verdict.NotInOrder end ran = absurd end
+end_judged : (refuses : Refusal → Type 0) (reports : Report → Type 0) (text : Report → List ℕ) (old new : Option (List ℕ)) (v : Verdict) → IsEnd v
+    → RanTo reports text (EndedIn v) (Grew old new) → Judged refuses reports text old new v
+end_judged refuses reports text old new verdict.Good end ran = ran
+end_judged refuses reports text old new (verdict.Fault strand number pc) end ran = ran
+end_judged refuses reports text old new (verdict.Spent strand) end ran = ran
+end_judged refuses reports text old new verdict.Usage end ran = absurd end
+end_judged refuses reports text old new (verdict.Refused why) end ran = absurd end
+end_judged refuses reports text old new verdict.ReadFault end ran = absurd end
+end_judged refuses reports text old new verdict.WriteFault end ran = absurd end
+end_judged refuses reports text old new verdict.OutOfMemory end ran = absurd end
+end_judged refuses reports text old new verdict.NotInOrder end ran = absurd end
 
 end_has_text : (v : Verdict) → IsEnd v → HasNoText (status_of_verdict v) → ⊥
 end_has_text verdict.Good end none = none
@@ -114,23 +115,52 @@ end_has_text verdict.OutOfMemory end none = end
 end_has_text verdict.NotInOrder end none = end
 
 -- a verdict on how the strands of a report ended, whose text was written
-pub record Ended (run : Run) (input : List ℕ) (old new : Option (List ℕ)) (v : Verdict) : Type 0 where
-  pub judged : Judged run input old new v
-  pub text : HasNoText (status_of_verdict v) → ⊥
+pub record Ended (report : Report) (text : Report → List ℕ) (old new : Option (List ℕ)) (v : Verdict) : Type 0 where
+  pub judged : Judged (λ why. ⊥) (λ r. r ≡ report) text old new v
+  pub no_empty : HasNoText (status_of_verdict v) → ⊥
   pub no_write_fault : v ≡ verdict.WriteFault → ⊥
   pub no_read_fault : v ≡ verdict.ReadFault → ⊥
 
 -- the text of a report was written, and the verdict is how its strands ended
-pub ended_so : {T E : Type 0} (run : Run) (input : List ℕ) (old new : Option (List ℕ)) (report : Report) (wrote : Result T E) (v : Verdict)
-    → IsReportOfInput run input report → false ≡ is_err wrote → OnOk wrote (Grew old new (printed_of run.brief report)) → v ≡ ended_of report.traces
-    → Ended run input old new v
-ended_so run input old new report wrote v is_report went ok is =
+pub ended_so : {T E : Type 0} (report : Report) (text : Report → List ℕ) (old new : Option (List ℕ)) (wrote : Result T E) (v : Verdict)
+    → false ≡ is_err wrote → OnOk wrote (Grew old new (text report)) → v ≡ ended_of report.traces → Ended report text old new v
+ended_so report text old new wrote v went ok is =
     let end : IsEnd v = subst (λ (w : Verdict). IsEnd w) (sym is) (is_end report.traces) in
     let P : Verdict → Type 0 = λ w. IsEnd w in
-    let grew : Grew old new (printed_of run.brief report) = went_well wrote (Grew old new (printed_of run.brief report)) went ok in
+    let grew : Grew old new (text report) = went_well wrote (Grew old new (text report)) went ok in
     record {
-      judged = end_judged run input old new v end (record { report = report; is_report = is_report; came = sym is; printed = grew });
-      text = end_has_text v end;
+      judged = end_judged (λ why. ⊥) (λ r. r ≡ report) text old new v end (record { report = report; is_report = refl; came = sym is; printed = grew });
+      no_empty = end_has_text v end;
       no_write_fault = λ bad. subst P bad end;
       no_read_fault = λ bad. subst P bad end;
     }
+
+-- ---- what is said of some reports is said of more
+
+ran_more : (reports reports' : Report → Type 0) (text : Report → List ℕ) (ended : Report → Type 0) (grew : List ℕ → Type 0)
+    → ((report : Report) → reports report → reports' report) → RanTo reports text ended grew → RanTo reports' text ended grew
+ran_more reports reports' text ended grew more ran =
+    record { report = ran.report; is_report = more ran.report ran.is_report; came = ran.came; printed = ran.printed }
+
+pub judged_more : (refuses refuses' : Refusal → Type 0) (reports reports' : Report → Type 0) (text : Report → List ℕ) (old new : Option (List ℕ)) (v : Verdict)
+    → ((why : Refusal) → refuses why → refuses' why) → ((report : Report) → reports report → reports' report)
+    → Judged refuses reports text old new v → Judged refuses' reports' text old new v
+judged_more refuses refuses' reports reports' text old new verdict.Good also more j = ran_more reports reports' text (EndedIn verdict.Good) (Grew old new) more j
+judged_more refuses refuses' reports reports' text old new (verdict.Fault strand number pc) also more j =
+    ran_more reports reports' text (EndedIn (verdict.Fault strand number pc)) (Grew old new) more j
+judged_more refuses refuses' reports reports' text old new (verdict.Spent strand) also more j =
+    ran_more reports reports' text (EndedIn (verdict.Spent strand)) (Grew old new) more j
+judged_more refuses refuses' reports reports' text old new verdict.WriteFault also more j =
+    ran_more reports reports' text (λ report. ⊤) (GrewPart old new) more j
+judged_more refuses refuses' reports reports' text old new (verdict.Refused why) also more j = also why j
+judged_more refuses refuses' reports reports' text old new verdict.ReadFault also more j = tt
+judged_more refuses refuses' reports reports' text old new verdict.OutOfMemory also more j = tt
+judged_more refuses refuses' reports reports' text old new verdict.Usage also more j = absurd j
+judged_more refuses refuses' reports reports' text old new verdict.NotInOrder also more j = absurd j
+
+-- the verdict on a report is one on the reports of which it is
+pub judged_one : (reports : Report → Type 0) (report : Report) (text : Report → List ℕ) (old new : Option (List ℕ)) (v : Verdict) → reports report
+    → Judged (λ why. ⊥) (λ r. r ≡ report) text old new v → Judged (λ why. ⊥) reports text old new v
+judged_one reports report text old new v is j =
+    judged_more (λ why. ⊥) (λ why. ⊥) (λ r. r ≡ report) reports text old new v (λ why no. no)
+    (λ r same. let P : Report → Type 0 = λ q. reports q in subst P (sym same) is) j

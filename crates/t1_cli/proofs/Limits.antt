@@ -1,9 +1,13 @@
 -- What is known of the machine that the words ask for, and of words one after another.
-use Rattle.std.proofs.Common.{◌≡◌, ℕ, suc, ◌+◌, ◌*◌, ◌%◌, ◌<◌, ◌≤◌, ◌==◌, ◌&&◌, ◌||◌, inl, inr, nat_le, Bool, true, List, ◌∷◌, length, drop, map, get_or, Option, Some, None, refl, ap, sym, ◌∙◌, subst, arith}
+use Rattle.std.proofs.Common.{◌≡◌, ℕ, suc, ◌+◌, ◌*◌, ◌%◌, ◌<◌, ◌≤◌, ◌==◌, ◌&&◌, ◌||◌, inl, inr, nat_le, Bool, true, List, ◌∷◌, length, drop, map, get_or, Option, Some, None, Result, Ok, Err, ◌^◌, refl, ap, sym, ◌∙◌, subst, arith}
 use Rattle.std.proofs.lemmas.Bool.{and_parts, or_cases, leb-true, eqb-true}
 use Rattle.std.proofs.Math.ListN.{drop_of_length-le}
 use Rattle.std.proofs.Math.Seq.{drop-cons}
+use Rattle.std.specs.Prelude.{IfOk}
 use Rattle.t1_elf.specs.declared.object.Image.{Image}
+use Rattle.t1_elf.specs.declared.object.Object.{Object}
+use Rattle.t1_elf.specs.Images.{image_of}
+use Rattle.t1_elf.specs.Parsed.{KeepsTo}
 use Rattle.t1_event.specs.declared.report.Config.{Config}
 use Rattle.t1_machine.specs.Start.{IsRunnable, setup_of}
 use Rattle.t1_cli.specs.declared.command.Reading.{Reading}
@@ -69,6 +73,19 @@ runnable config image h size entry =
       image = size;
       entry = entry;
     }
+
+-- the image of an object that keeps to the RAM can be run, and its entry is low
+pub record CanRun {E : Type 0} (config : Config) (r : Result Image E) : Type 0 where
+  pub runnable : IfOk r (λ image. IsRunnable (setup_of config image))
+  pub entry : IfOk r (λ image. image.entry < 2 ^ 40)
+
+pub can_run : {E : Type 0} (config : Config) (object : Object) (r : Result Image E) → is_in_limits config ≡ true → KeepsTo config.ram object
+    → IfOk r (λ image. image ≡ image_of object config.ram) → IfOk r (λ image. length image.ram ≡ config.ram) → CanRun config r
+can_run config object (Ok image) limits keeps is size =
+    let can = runnable config image limits size (ap (λ (i : Image). i.entry % 4) is ∙ keeps.aligned) in
+    let low = ap (λ (i : Image). i.entry) is in
+    record { runnable = can; entry = omega (arith, low, keeps.entry, can.few_bytes) }
+can_run config object (Err error) limits keeps is size = record { runnable = tt; entry = tt }
 
 -- ---- words one after another
 

@@ -1,25 +1,22 @@
 -- The report of a run, and why an input is not run.
-use Rattle.std.proofs.Common.{◌≡◌, ℕ, ◌^◌, ◌<◌, ◌≤◌, Bool, true, false, List, length, Option, Some, Result, Ok, Err, if◌then◌else◌, refl, ap, sym, ◌∙◌, subst, arith}
+use Rattle.std.proofs.Common.{◌≡◌, ℕ, ◌^◌, ◌<◌, ◌≤◌, Bool, List, length, Some, Err, if◌then◌else◌, refl, ap, sym, ◌∙◌, subst}
 use Rattle.std.proofs.lemmas.Bool.{lt-ltb, le-ltb}
 use Rattle.t1_num.specs.MemoryLaws.{AreBytes}
 use Rattle.t1_elf.specs.declared.error.ElfError.{ElfError}
-use Rattle.t1_elf.specs.declared.object.Object.{Object}
 use Rattle.t1_elf.specs.Parsed.{parsed}
 use Rattle.t1_event.specs.declared.report.Config.{Config}
 use Rattle.t1_event.specs.declared.report.Report.{Report}
 use Rattle.t1_event.specs.Printable.{IsPrintableReport}
 use Rattle.t1_joint.specs.Start.{Setup}
 use Rattle.t1_machine.specs.declared.schedule.Schedule.{Schedule}
-use Rattle.t1_machine.specs.Machine.{MachineState}
 use Rattle.t1_machine.specs.Runs.{IsRun, begun_as, machine_after}
 use Rattle.t1_machine.specs.Start.{IsRunnable, machine_start}
 use Rattle.t1_machine_rule.specs.Ends.{Ends, Reports, report_of}
 use Rattle.t1_machine_rule.specs.Stands.{IsRunOf}
 use Rattle.t1_machine_rule.proofs.Stand.{machines_stand}
 use Rattle.t1_chip.specs.Chips.{ChipState, RunsToEnd, Reported}
-use Rattle.t1_cli.specs.declared.refusal.Refusal.{Refusal}
 use Rattle.t1_cli.specs.declared.refusal.Refusal.TheVariants.{TooLong, Misformed}
-use Rattle.t1_cli.specs.Runs.{most_input, is_long, refusal_in, refusal_of, IsReportOf}
+use Rattle.t1_cli.specs.Runs.{most_input, refusal_in, refusal_of, IsReportOf}
 
 -- a list of slots leads there from the start
 run_of : (w : Setup) (numbers : List ℕ) → IsRunnable w → AreBytes w.image.ram → IsRunOf w (machine_after (machine_start w) numbers)

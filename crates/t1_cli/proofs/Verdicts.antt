@@ -4,8 +4,10 @@ use Rattle.std.specs.Prelude.{OnOk, OnErr, ⊤}
 use Rattle.std.specs.Io.KnownBytes.{IsAtEnd}
 use Rattle.t1_io.specs.Causes.{HasCause}
 use Rattle.t1_io.specs.Held.{Grew, GrewPart}
+use Rattle.t1_event.specs.declared.report.Config.{Config}
+use Rattle.t1_event.specs.declared.report.Report.{Report}
+use Rattle.t1_joint.specs.Start.{Setup}
 use Rattle.t1_check.specs.declared.verdict.Verdict.{Verdict as Judgement}
-use Rattle.t1_cli.specs.declared.command.Run.{Run}
 use Rattle.t1_cli.specs.declared.command.Task.{Task}
 use Rattle.t1_cli.specs.declared.command.Task.TheVariants as task
 use Rattle.t1_cli.specs.declared.refusal.Refusal.{Refusal}
@@ -15,9 +17,10 @@ use Rattle.t1_cli.specs.declared.verdict.Verdict.{Verdict}
 use Rattle.t1_cli.specs.declared.verdict.Verdict.TheVariants as verdict
 use Rattle.t1_cli.specs.Checks.{HoldsSo, BreaksSo}
 use Rattle.t1_cli.specs.Made.{asm_of, dis_of}
-use Rattle.t1_cli.specs.Serial.{WasLeft, HasText, Answers, AnswersInput, PrintsRun, EndedAs, PrintsVerdict, AnswersRun, AnswersText, AnswersCheck, AnswersGen, AnswersTask, ReadsNothing, TellsLine, status_of_made, status_of_text}
+use Rattle.t1_cli.specs.Serial.{WasLeft, HasText, Answers, AnswersInput, PrintsReport, EndedAs, PrintsVerdict, AnswersReport, AnswersText, AnswersCheck, AnswersGen, AnswersTask, ReadsNothing, TellsLine, status_of_made, status_of_text}
+use Rattle.t1_cli.specs.Runs.{IsReportOfInput, by_schedule, printed_of}
 use Rattle.t1_cli.specs.Statuses.{status_of_verdict}
-use Rattle.t1_cli.specs.Verdict.{RanTo, EndedIn, IsChecked, Judged, Made, Checked, Guests, ServesTask}
+use Rattle.t1_cli.specs.Verdict.{RanTo, EndedIn, IsChecked, JudgedInput, Made, Checked, Guests, ServesTask}
 
 -- ---- lines on err
 
@@ -52,30 +55,32 @@ answers_any : (expects : List ℕ → Status) (left : Option (List ℕ)) (result
 answers_any expects None result any = tt
 answers_any expects (Some left) result any = any (expects left)
 
--- ---- the command run
+-- ---- the run of an input
 
 -- a verdict of a run that ended, and its status
-ended_answers : (run : Run) (left left' old new : Option (List ℕ)) (input : List ℕ) (v : Verdict) (result : Status) → status_of_verdict v ≡ result
-    → WasLeft left input → RanTo run input (EndedIn v) (Grew old new) → IsAtEnd left' → PrintsRun run left (EndedAs result) (Grew old new) × IsAtEnd left'
-ended_answers run left left' old new input v result is read j end = (
+ended_answers : (config : Config) (reports : Setup → Report → Type 0) (text : Report → List ℕ) (left left' old new : Option (List ℕ)) (input : List ℕ) (v : Verdict)
+    (result : Status) → status_of_verdict v ≡ result → WasLeft left input → RanTo (IsReportOfInput config reports input) text (EndedIn v) (Grew old new)
+    → IsAtEnd left' → PrintsReport config reports text left (EndedAs result) (Grew old new) × IsAtEnd left'
+ended_answers config reports text left left' old new input v result is read j end = (
   record { input = input; read = read; report = j.report; is_report = j.is_report; came = ap status_of_verdict j.came ∙ is; printed = j.printed },
   end,
 )
 
-run_answers : (run : Run) (left left' old new : Option (List ℕ)) (v : Verdict) (input : List ℕ) → WasLeft left input → Judged run input old new v
-    → (HasText (status_of_verdict v) → IsAtEnd left') → AnswersRun run left left' old new (status_of_verdict v)
-run_answers run left left' old new verdict.Good input read j end =
-    ended_answers run left left' old new input verdict.Good status.Good refl read j (end tt)
-run_answers run left left' old new (verdict.Spent strand) input read j end =
-    ended_answers run left left' old new input (verdict.Spent strand) status.Spent refl read j (end tt)
-run_answers run left left' old new (verdict.Fault strand number pc) input read j end =
-    ended_answers run left left' old new input (verdict.Fault strand number pc) status.Fault refl read j (end tt)
-run_answers run left left' old new verdict.Usage input read j end = absurd j
-run_answers run left left' old new (verdict.Refused why) input read j end = record { input = input; read = read; why = why; refused = j }
-run_answers run left left' old new verdict.ReadFault input read j end = tt
-run_answers run left left' old new verdict.OutOfMemory input read j end = tt
-run_answers run left left' old new verdict.NotInOrder input read j end = absurd j
-run_answers run left left' old new verdict.WriteFault input read j end =
+pub report_answers : (config : Config) (reports : Setup → Report → Type 0) (text : Report → List ℕ) (left left' old new : Option (List ℕ)) (v : Verdict)
+    (input : List ℕ) → WasLeft left input → JudgedInput config reports text input old new v → (HasText (status_of_verdict v) → IsAtEnd left')
+    → AnswersReport config reports text left left' old new (status_of_verdict v)
+report_answers config reports text left left' old new verdict.Good input read j end =
+    ended_answers config reports text left left' old new input verdict.Good status.Good refl read j (end tt)
+report_answers config reports text left left' old new (verdict.Spent strand) input read j end =
+    ended_answers config reports text left left' old new input (verdict.Spent strand) status.Spent refl read j (end tt)
+report_answers config reports text left left' old new (verdict.Fault strand number pc) input read j end =
+    ended_answers config reports text left left' old new input (verdict.Fault strand number pc) status.Fault refl read j (end tt)
+report_answers config reports text left left' old new verdict.Usage input read j end = absurd j
+report_answers config reports text left left' old new (verdict.Refused why) input read j end = record { input = input; read = read; why = why; refused = j }
+report_answers config reports text left left' old new verdict.ReadFault input read j end = tt
+report_answers config reports text left left' old new verdict.OutOfMemory input read j end = tt
+report_answers config reports text left left' old new verdict.NotInOrder input read j end = absurd j
+report_answers config reports text left left' old new verdict.WriteFault input read j end =
     record { input = input; read = read; report = j.report; is_report = j.is_report; came = tt; printed = j.printed }
 
 -- ---- the commands asm and dis
@@ -142,7 +147,7 @@ verdict_answers : (asked : Option Task) (left left' old new : Option (List ℕ))
     → AnswersTask asked left left' old new (status_of_verdict v)
 verdict_answers None left left' old new v serves end = ap status_of_verdict serves
 verdict_answers (Some (task.Run run)) left left' old new v serves end =
-    run_answers run left left' old new v serves.input serves.read serves.holds (end (λ bad. bad))
+    report_answers run.config (by_schedule run) (printed_of run.brief) left left' old new v serves.input serves.read serves.holds (end (λ bad. bad))
 verdict_answers (Some task.Asm) left left' old new v serves end =
     text_answers asm_of left left' old new v serves.input serves.read serves.holds (end (λ bad. bad))
 verdict_answers (Some task.Dis) left left' old new v serves end =
@@ -166,7 +171,7 @@ serves_asked asked asked' left old new v same serves =
     let P : Option Task → Type 0 = λ t. ServesTask t left old new v in subst P same serves
 
 -- the status is that of usage exactly where the verdict is
-usage_back : (v : Verdict) → status_of_verdict v ≡ status.Usage → v ≡ verdict.Usage
+pub usage_back : (v : Verdict) → status_of_verdict v ≡ status.Usage → v ≡ verdict.Usage
 usage_back verdict.Usage h = refl
 usage_back verdict.Good h = cc
 usage_back (verdict.Refused why) h = cc

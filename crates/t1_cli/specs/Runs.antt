@@ -1,6 +1,7 @@
 -- What comes of the run of an input: why it is refused, or its report, and how its strands ended.
 use Rattle.std.specs.Prelude.{ℕ, suc, ◌≡◌, ◌≤◌, nat_lt, if◌then◌else◌, Bool, true, false, List, [], ◌∷◌, length, Option, Some, None, unwrap_or, Result, Ok, Err}
 use Rattle.t1_elf.specs.declared.error.ElfError.{ElfError}
+use Rattle.t1_elf.specs.declared.object.Image.{Image}
 use Rattle.t1_elf.specs.declared.object.Object.{Object}
 use Rattle.t1_elf.specs.Images.{image_of}
 use Rattle.t1_elf.specs.Parsed.{parsed}
@@ -64,12 +65,24 @@ pub record IsReportOf (w : Setup) (schedule : Schedule) (report : Report) : Type
 abbrev pub setup_in : Config → Object → Setup
 setup_in config object = setup_of config (image_of object config.ram)
 
--- the input is the file of an object that fits the RAM, and its run by the words has this report
-pub record IsReportOfInput (run : Run) (input : List ℕ) (report : Report) : Type 0 where
+-- the input is the file of an object that fits the RAM, and its machine has this report, by what reports there are
+-- of a machine
+pub record IsReportOfInput (config : Config) (reports : Setup → Report → Type 0) (input : List ℕ) (report : Report) : Type 0 where
   pub short : length input ≤ most_input
   pub object : Object
-  pub file : parsed input run.config.ram ≡ Ok object
-  pub is_report : IsReportOf (setup_in run.config object) run.schedule report
+  pub file : parsed input config.ram ≡ Ok object
+  pub is_report : reports (setup_in config object) report
+
+-- the reports of a run: those by the schedule of its words
+abbrev pub by_schedule : Run → Setup → Report → Type 0
+by_schedule run w report = IsReportOf w run.schedule report
+
+-- the input is the file of an object that fits the RAM, and this is its image
+pub record IsImageOfInput (config : Config) (input : List ℕ) (image : Image) : Type 0 where
+  pub short : length input ≤ most_input
+  pub object : Object
+  pub file : parsed input config.ram ≡ Ok object
+  pub is : image ≡ image_of object config.ram
 
 -- its log, or its summary
 abbrev pub printed_of : Bool → Report → List ℕ

@@ -4,8 +4,10 @@ use Rattle.std.specs.Io.KnownBytes.{IsAtEnd}
 use Rattle.t1_io.specs.Causes.{Rose}
 use Rattle.t1_io.specs.Held.{Grew, GrewPart}
 use Rattle.t1_elf.specs.Saved.{saved}
+use Rattle.t1_event.specs.declared.report.Config.{Config}
 use Rattle.t1_event.specs.declared.report.Report.{Report}
 use Rattle.t1_event.specs.Items.{items_of}
+use Rattle.t1_joint.specs.Start.{Setup}
 use Rattle.t1_gen.specs.Guests.{generated}
 use Rattle.t1_check.specs.declared.verdict.Verdict.{Verdict as Judgement}
 use Rattle.t1_check.specs.Verdicts.{Judges}
@@ -17,7 +19,7 @@ use Rattle.t1_cli.specs.declared.status.Status.{Status}
 use Rattle.t1_cli.specs.declared.status.Status.TheVariants as status
 use Rattle.t1_cli.specs.Checks.{IsLogOf, IsNoLog, HoldsSo, BreaksSo, checked_line}
 use Rattle.t1_cli.specs.Made.{asm_of, dis_of}
-use Rattle.t1_cli.specs.Runs.{IsReportOfInput, printed_of, refusal_of, ended_of}
+use Rattle.t1_cli.specs.Runs.{IsReportOfInput, by_schedule, printed_of, refusal_of, ended_of}
 use Rattle.t1_cli.specs.Statuses.{status_of_verdict}
 
 -- the input is what the source had left, where it tells it
@@ -66,39 +68,45 @@ abbrev pub AnswersInput : (List ℕ → Status) → Option (List ℕ) → Status
 AnswersInput expected None result = ⊤
 AnswersInput expected (Some left) result = Answers result (expected left)
 
--- ---- the command run
+-- ---- the run of an input, whatever reports there are of a machine
 
--- a run of the input has this report, of which this holds, and what was written grew by its text in this way
-pub record PrintsRun (run : Run) (left : Option (List ℕ)) (ended : Report → Type 0) (grew : List ℕ → Type 0) : Type 0 where
+-- the input's machine has this report, of which this holds, and what was written grew by its text in this way
+pub record PrintsReport (config : Config) (reports : Setup → Report → Type 0) (text : Report → List ℕ) (left : Option (List ℕ)) (ended : Report → Type 0) (grew : List ℕ → Type 0) : Type 0 where
   pub input : List ℕ
   pub read : WasLeft left input
   pub report : Report
-  pub is_report : IsReportOfInput run input report
+  pub is_report : IsReportOfInput config reports input report
   pub came : ended report
-  pub printed : grew (printed_of run.brief report)
+  pub printed : grew (text report)
 
 -- the input is too long, or no program that can be loaded
-pub record RefusesRun (run : Run) (left : Option (List ℕ)) : Type 0 where
+pub record RefusesProgram (config : Config) (left : Option (List ℕ)) : Type 0 where
   pub input : List ℕ
   pub read : WasLeft left input
   pub why : Refusal
-  pub refused : refusal_of run.config input ≡ Some why
+  pub refused : refusal_of config input ≡ Some why
 
 -- how the strands ended is told by this status
 abbrev pub EndedAs : Status → Report → Type 0
 EndedAs result report = status_of_verdict (ended_of report.traces) ≡ result
 
 -- the whole text was written, or a front of it; the input is refused; a read failed, or memory was wanting
+abbrev pub AnswersReport : Config → (Setup → Report → Type 0) → (Report → List ℕ) → Option (List ℕ) → Option (List ℕ) → Option (List ℕ) → Option (List ℕ) → Status → Type 0
+AnswersReport config reports text left left' old new status.Good = PrintsReport config reports text left (EndedAs status.Good) (Grew old new) × IsAtEnd left'
+AnswersReport config reports text left left' old new status.Fault = PrintsReport config reports text left (EndedAs status.Fault) (Grew old new) × IsAtEnd left'
+AnswersReport config reports text left left' old new status.Spent = PrintsReport config reports text left (EndedAs status.Spent) (Grew old new) × IsAtEnd left'
+AnswersReport config reports text left left' old new status.WriteFault = PrintsReport config reports text left (λ report. ⊤) (GrewPart old new)
+AnswersReport config reports text left left' old new status.Refused = RefusesProgram config left
+AnswersReport config reports text left left' old new status.ReadFault = ⊤
+AnswersReport config reports text left left' old new status.OutOfMemory = ⊤
+AnswersReport config reports text left left' old new status.Usage = ⊥
+AnswersReport config reports text left left' old new status.NotInOrder = ⊥
+
+-- ---- the command run
+
+-- its reports are those by the schedule of its words
 abbrev pub AnswersRun : Run → Option (List ℕ) → Option (List ℕ) → Option (List ℕ) → Option (List ℕ) → Status → Type 0
-AnswersRun run left left' old new status.Good = PrintsRun run left (EndedAs status.Good) (Grew old new) × IsAtEnd left'
-AnswersRun run left left' old new status.Fault = PrintsRun run left (EndedAs status.Fault) (Grew old new) × IsAtEnd left'
-AnswersRun run left left' old new status.Spent = PrintsRun run left (EndedAs status.Spent) (Grew old new) × IsAtEnd left'
-AnswersRun run left left' old new status.WriteFault = PrintsRun run left (λ report. ⊤) (GrewPart old new)
-AnswersRun run left left' old new status.Refused = RefusesRun run left
-AnswersRun run left left' old new status.ReadFault = ⊤
-AnswersRun run left left' old new status.OutOfMemory = ⊤
-AnswersRun run left left' old new status.Usage = ⊥
-AnswersRun run left left' old new status.NotInOrder = ⊥
+AnswersRun run left left' old new result = AnswersReport run.config (by_schedule run) (printed_of run.brief) left left' old new result
 
 -- ---- the commands asm and dis, which make a text of each input or refuse it
 

@@ -5,6 +5,7 @@ use Rattle.t1_elf.specs.Saved.{saved}
 use Rattle.t1_event.specs.declared.report.Config.{Config}
 use Rattle.t1_event.specs.declared.report.Report.{Report}
 use Rattle.t1_event.specs.Items.{items_of}
+use Rattle.t1_joint.specs.Start.{Setup}
 use Rattle.t1_gen.specs.Guests.{generated}
 use Rattle.t1_check.specs.declared.verdict.Verdict.{Verdict as Judgement}
 use Rattle.t1_check.specs.declared.verdict.Verdict.TheVariants.{Holds, Broken}
@@ -21,7 +22,7 @@ use Rattle.t1_cli.specs.declared.verdict.Verdict.TheVariants as verdict
 use Rattle.t1_cli.specs.Lines.{refusal_line, fault_line, spent_line}
 use Rattle.t1_cli.specs.Checks.{IsLogOf, IsNoLog, HoldsSo, BreaksSo, checked_line}
 use Rattle.t1_cli.specs.Made.{asm_of, dis_of}
-use Rattle.t1_cli.specs.Runs.{most_input, refusal_of, IsReportOfInput, printed_of, ended_of}
+use Rattle.t1_cli.specs.Runs.{most_input, refusal_of, IsReportOfInput, by_schedule, printed_of, ended_of}
 use Rattle.t1_cli.specs.Statuses.{status_of_verdict}
 use Rattle.t1_cli.specs.Serial.{WasLeft, TellsLine}
 
@@ -52,36 +53,52 @@ IsUnread left verdict.ReadFault = ⊤
 IsUnread left verdict.OutOfMemory = ⊤
 IsUnread left _ = ⊥
 
--- ---- the command run
+-- ---- the run of an input
 
--- a run of the input has a report, of which this holds, and what was written grew by its text in this way
-pub record RanTo (run : Run) (input : List ℕ) (ended : Report → Type 0) (grew : List ℕ → Type 0) : Type 0 where
+-- there is such a report, of which this holds, and what was written grew by its text in this way
+pub record RanTo (reports : Report → Type 0) (text : Report → List ℕ) (ended : Report → Type 0) (grew : List ℕ → Type 0) : Type 0 where
   pub report : Report
-  pub is_report : IsReportOfInput run input report
+  pub is_report : reports report
   pub came : ended report
-  pub printed : grew (printed_of run.brief report)
+  pub printed : grew (text report)
 
 -- its strands ended so
 abbrev pub EndedIn : Verdict → Report → Type 0
 EndedIn came report = ended_of report.traces ≡ came
 
--- what a verdict says of the input and of what was written
-abbrev pub Judged : Run → List ℕ → Option (List ℕ) → Option (List ℕ) → Verdict → Type 0
-Judged run input old new verdict.Good = RanTo run input (EndedIn verdict.Good) (Grew old new)
-Judged run input old new verdict.Usage = ⊥
-Judged run input old new (verdict.Refused why) = refusal_of run.config input ≡ Some why
-Judged run input old new (verdict.Fault strand number pc) = RanTo run input (EndedIn (verdict.Fault strand number pc)) (Grew old new)
-Judged run input old new (verdict.Spent strand) = RanTo run input (EndedIn (verdict.Spent strand)) (Grew old new)
-Judged run input old new verdict.ReadFault = ⊤
-Judged run input old new verdict.WriteFault = RanTo run input (λ report. ⊤) (GrewPart old new)
-Judged run input old new verdict.OutOfMemory = ⊤
-Judged run input old new verdict.NotInOrder = ⊥
+-- what a verdict says of why there is no report, or of a report and of what was written
+abbrev pub Judged : (Refusal → Type 0) → (Report → Type 0) → (Report → List ℕ) → Option (List ℕ) → Option (List ℕ) → Verdict → Type 0
+Judged refuses reports text old new verdict.Good = RanTo reports text (EndedIn verdict.Good) (Grew old new)
+Judged refuses reports text old new verdict.Usage = ⊥
+Judged refuses reports text old new (verdict.Refused why) = refuses why
+Judged refuses reports text old new (verdict.Fault strand number pc) = RanTo reports text (EndedIn (verdict.Fault strand number pc)) (Grew old new)
+Judged refuses reports text old new (verdict.Spent strand) = RanTo reports text (EndedIn (verdict.Spent strand)) (Grew old new)
+Judged refuses reports text old new verdict.ReadFault = ⊤
+Judged refuses reports text old new verdict.WriteFault = RanTo reports text (λ report. ⊤) (GrewPart old new)
+Judged refuses reports text old new verdict.OutOfMemory = ⊤
+Judged refuses reports text old new verdict.NotInOrder = ⊥
+
+-- what it says of an input
+abbrev pub JudgedInput : Config → (Setup → Report → Type 0) → (Report → List ℕ) → List ℕ → Option (List ℕ) → Option (List ℕ) → Verdict → Type 0
+JudgedInput config reports text input old new came =
+    Judged (λ why. refusal_of config input ≡ Some why) (IsReportOfInput config reports input) text old new came
+
+-- the command run
+abbrev pub JudgedRun : Run → List ℕ → Option (List ℕ) → Option (List ℕ) → Verdict → Type 0
+JudgedRun run input old new came = JudgedInput run.config (by_schedule run) (printed_of run.brief) input old new came
 
 -- a verdict tells why the input is not run, or memory was wanting
 abbrev pub IsRefusal : Config → List ℕ → Verdict → Type 0
 IsRefusal config input (verdict.Refused why) = refusal_of config input ≡ Some why
 IsRefusal config input verdict.OutOfMemory = ⊤
 IsRefusal config input _ = ⊥
+
+-- why an input is not loaded: it is refused, a read failed, or memory was wanting
+abbrev pub IsUnloaded : Config → List ℕ → Verdict → Type 0
+IsUnloaded config input (verdict.Refused why) = refusal_of config input ≡ Some why
+IsUnloaded config input verdict.ReadFault = ⊤
+IsUnloaded config input verdict.OutOfMemory = ⊤
+IsUnloaded config input _ = ⊥
 
 -- ---- the commands asm and dis
 
@@ -156,15 +173,15 @@ Guests seed size old new verdict.ReadFault = ⊥
 -- what a verdict says, by what the words ask for
 abbrev pub ServesTask : Option Task → Option (List ℕ) → Option (List ℕ) → Option (List ℕ) → Verdict → Type 0
 ServesTask None left old new came = came ≡ verdict.Usage
-ServesTask (Some (task.Run run)) left old new came = OfInput left (λ input. Judged run input old new came)
+ServesTask (Some (task.Run run)) left old new came = OfInput left (λ input. JudgedRun run input old new came)
 ServesTask (Some task.Asm) left old new came = OfInput left (λ input. Made (asm_of input) old new came)
 ServesTask (Some task.Dis) left old new came = OfInput left (λ input. Made (dis_of input) old new came)
 ServesTask (Some task.Check) left old new came = OfInput left (λ input. Checked input old new came)
 ServesTask (Some (task.Gen seed size)) left old new came = Guests seed size old new came
 
--- one verdict on one input has the status, and its line is told
-pub record Tells (asked : Option Task) (left out out' : Option (List ℕ)) (faults faults' : ℕ) (err err' : Option (List ℕ)) (result : Status) : Type 0 where
+-- one verdict, which says this, has the status, and its line is told
+pub record Tells (says : Verdict → Type 0) (faults faults' : ℕ) (err err' : Option (List ℕ)) (result : Status) : Type 0 where
   pub verdict : Verdict
   pub status_is : status_of_verdict verdict ≡ result
-  pub serves : ServesTask asked left out out' verdict
+  pub serves : says verdict
   pub told : TellsLine faults faults' err err' (verdict_line_of verdict)

@@ -1,5 +1,5 @@
 -- The words of the command line: a command, and its options in any order, each at most once.
-use Rattle.std.specs.Prelude.{ℕ, ◌+◌, ◌*◌, ◌-◌, ◌%◌, ◌^◌, ◌≤◌, ◌≡◌, ◌==◌, ◌&&◌, ◌||◌, nat_le, nat_lt, not, Bool, true, false, IsTrue, List, [], ◌∷◌, length, codes, Option, Some, None, is_none, option_map, unwrap_or, if◌then◌else◌, ⊤}
+use Rattle.std.specs.Prelude.{ℕ, ◌+◌, ◌*◌, ◌-◌, ◌%◌, ◌^◌, ◌≤◌, ◌==◌, ◌&&◌, ◌||◌, nat_le, nat_lt, not, Bool, true, false, IsTrue, List, [], ◌∷◌, length, codes, Option, Some, None, is_none, option_map, unwrap_or, if◌then◌else◌, ⊤}
 use Rattle.std.specs.Str.{bytes_eq}
 use Rattle.t1_event.specs.declared.report.Config.{Config}
 use Rattle.t1_cli.specs.declared.command.Command.{Command}
@@ -181,14 +181,14 @@ IsCommand command.Asm = ⊤
 IsCommand command.Dis = ⊤
 IsCommand command.Check = ⊤
 
--- ---- what is served today
+-- ---- what is served on one thread
 
 -- by turns, or by the generator of a seed
 abbrev pub schedule_of : Option ℕ → Schedule
 schedule_of None = schedule.Turns
 schedule_of (Some seed) = schedule.Seed seed
 
--- a run of the machine, the assembler, the disassembler and the checker, a guest; not yet the threads
+-- a run of the machine, the assembler, the disassembler and the checker, a guest; not the run in threads
 abbrev pub served : Option Command → Option Task
 served None = None
 served (Some (command.Run config seed brief)) = Some (task.Run (record { config = config; schedule = schedule_of seed; brief = brief }))

@@ -1,7 +1,7 @@
 //! The commands of t1sim.
 //!
-//! [`t1_serial`] is all that the program does: it takes the words of the command line, a source
-//! and two sinks, and answers the status. The command `run` runs a program on the machine of cores,
+//! [`t1_serial`] is all that the program does on one thread: it takes the words of the command line, a
+//! source and two sinks, and answers the status. The command `run` runs a program on the machine of cores,
 //! caches, banks and the I/O bridge, and writes every access of every strand in one memory order. The
 //! commands `asm` and `dis` are the assembler and the disassembler, `check` judges the order of a log, and
 //! `gen` writes guests.
@@ -10,7 +10,8 @@
 mod checks;
 pub mod command;
 mod ended;
-mod lines;
+pub mod input;
+pub mod lines;
 pub mod refusal;
 pub mod report;
 pub mod serial;

@@ -1,17 +1,19 @@
 //! The lines on err.
 ghost use Rattle.std.specs.Prelude.{◌≡◌, ◌≤◌, length};
 ghost use Rattle.t1_cli.specs.Lines.{name_of, fault_name_of, kind_name_of, elf_line, asm_line, log_line, refusal_line, fault_line, spent_line};
+ghost use Rattle.t1_cli.specs.Serial.{TellsLine};
 ghost use Rattle.t1_cli.specs.Verdict.{verdict_line_of};
 
 use crate::refusal::Refusal;
 use crate::verdict::Verdict;
 use t1_elf::ElfError;
+use t1_io::{Sink, write_all};
 use t1_log::Line;
 use t1_read::LogKind;
 use t1_stmt::fault::Fault;
 
 /// The most bytes of a line on err, and room to make it.
-pub(crate) const LINE: usize = 80;
+const LINE: usize = 80;
 
 /// The name of a kind of fault of a file.
 fn name_of(error: ElfError) -> &'static str
@@ -146,7 +148,7 @@ fn fixed(text: &str) -> Line<LINE>
 
 /// The line that a verdict has on err: it is empty where all is well.
 #[tactic(auto, unfolding(crate::specs::Verdict::verdict_line_of))]
-pub(crate) fn verdict_line(verdict: Verdict) -> Line<LINE>
+fn verdict_line(verdict: Verdict) -> Line<LINE>
     ensures { result ≡ verdict_line_of verdict }
 {
     match verdict {
@@ -160,4 +162,11 @@ pub(crate) fn verdict_line(verdict: Verdict) -> Line<LINE>
         Verdict::OutOfMemory => fixed("t1sim: out of memory\n"),
         Verdict::NotInOrder => fixed("t1sim: not in order\n"),
     }
+}
+
+/// Writes the line of a verdict, or a front of it where a fault comes.
+pub fn tell<E: Sink>(err: &mut E, verdict: Verdict)
+    ensures { TellsLine (E.faults err.old) (E.faults err.new) (E.held err.old) (E.held err.new) (verdict_line_of verdict) }
+{
+    let _ = write_all(err, verdict_line(verdict).as_slice());
 }

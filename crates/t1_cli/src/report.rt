@@ -1,25 +1,25 @@
-//! From an input to the report of its run.
-ghost use Rattle.std.specs.Prelude.{◌≡◌, ◌≢◌, ◌<◌, ◌≤◌, ◌%◌, ◌^◌, length, Ok, Err, IfOk, IfErr, IsTrue};
+//! The report of the run of an image, and its text.
+ghost use Rattle.std.specs.Prelude.{◌≡◌, ◌≢◌, ◌<◌, ◌^◌, IfOk, OnOk, OnErr};
 ghost use Rattle.t1_num.specs.MemoryLaws.{AreBytes};
-ghost use Rattle.t1_elf.specs.Images.{image_of};
-ghost use Rattle.t1_elf.specs.Parsed.{parsed, KeepsTo};
+ghost use Rattle.t1_io.specs.Causes.{HasCause, Rose};
+ghost use Rattle.t1_io.specs.Held.{Grew, GrewPart};
 ghost use Rattle.t1_event.specs.Printable.{IsPrintableReport};
 ghost use Rattle.t1_machine.specs.Start.{IsRunnable, setup_of};
-ghost use Rattle.t1_cli.specs.Runs.{IsReportOf, IsReportOfInput, setup_in};
-ghost use Rattle.t1_cli.specs.Verdict.{IsRefusal};
-ghost use Rattle.t1_cli.specs.Words.{is_in_limits};
+ghost use Rattle.t1_cli.specs.Runs.{IsReportOf, by_schedule, printed_of};
+ghost use Rattle.t1_cli.specs.Serial.{HasNoText};
+ghost use Rattle.t1_cli.specs.Statuses.{status_of_verdict};
+ghost use Rattle.t1_cli.specs.Verdict.{Judged};
 
 use crate::command::Run;
-use crate::refusal::Refusal;
+use crate::ended::ended;
 use crate::verdict::Verdict;
 use std::alloc::{AllocError, Global};
 use t1_chip::Chip;
-use t1_elf::{ElfError, Image, Object, lay, parse};
+use t1_elf::Image;
 use t1_event::{Config, Report};
+use t1_io::{Failed, Sink};
+use t1_log::{print, print_brief};
 use t1_machine::Schedule;
-
-/// The most bytes of an input.
-pub const MOST_INPUT: usize = 67_108_864;
 
 /// What is stored in bytes is below 256.
 fn are_bytes(image: &[u8])
@@ -46,54 +46,45 @@ fn run_image(
     Ok(chip.into_report())
 }
 
-/// The object of a file, whose bytes are let go.
-pub(crate) fn read_object(alloc: Global, input: Vec<u8>, limit: u64) -> Result<Object, ElfError>
-    ensures object { IfOk result (λ object. parsed input.items limit ≡ Ok object) }
-    ensures keeps { IfOk result (KeepsTo limit) }
-    ensures error { IfErr result (λ error. error ≢ ElfError.OutOfMemory → parsed input.items limit ≡ Err error) }
+/// Writes the log of a report, or its summary.
+fn print_report<K: Sink>(report: &Report, brief: bool, out: &mut K) -> Result<(), Failed>
+    requires { IsPrintableReport report.now }
+    ensures cause { HasCause (K.faults out.old) (K.faults out.new) result }
+    ensures all { OnOk result (Grew (K.held out.old) (K.held out.new) (printed_of brief report.now)) }
+    ensures part { OnErr result (GrewPart (K.held out.old) (K.held out.new) (printed_of brief report.now)) }
 {
-    parse(alloc, input, limit)
+    if brief {
+        print_brief(report, out)
+    } else {
+        print(report, out)
+    }
 }
 
-/// The image of an object, which is let go.
-fn laid_image(alloc: Global, object: Object, ram: u64) -> Result<Image, AllocError>
-    requires { KeepsTo ram object }
-    ensures value { IfOk result (λ image. image ≡ image_of object ram) }
-    ensures size { IfOk result (λ image. length image.ram ≡ ram) }
+/// Writes the log of a report, or its summary, and says how its strands ended, or that the write failed.
+pub fn write_report<K: Sink>(report: &Report, brief: bool, out: &mut K) -> Verdict
+    requires { IsPrintableReport report.now }
+    ensures judged { Judged (λ why. ⊥) (λ r. r ≡ report.now) (printed_of brief) (K.held out.old) (K.held out.new) result }
+    ensures unchanged { HasNoText (status_of_verdict result) → out.new ≡ out.old }
+    ensures fault { result ≡ Verdict.WriteFault → Rose (K.faults out.old) (K.faults out.new) }
+    ensures never { result ≢ Verdict.ReadFault }
 {
-    lay(alloc, &object, ram)
+    if print_report(report, brief, out).is_err() {
+        return Verdict::WriteFault;
+    }
+    ended(report.traces.as_slice())
 }
 
-/// The report of the run of an object by a schedule.
-fn run_object(
-    alloc: Global,
-    config: Config,
-    schedule: Schedule,
-    object: Object,
-) -> Result<Report, AllocError>
-    requires limits { IsTrue (is_in_limits config) }
-    requires keeps { KeepsTo config.ram object }
-    ensures report { IfOk result (IsReportOf (setup_in config object) schedule) }
-    ensures text { IfOk result IsPrintableReport }
+/// Writes what comes of the run of an image. No memory is taken after the first step of the run.
+pub(crate) fn write_run<K: Sink>(alloc: Global, run: &Run, image: Image, out: &mut K) -> Verdict
+    requires runnable { IsRunnable (setup_of run.now.config image) }
+    requires entry { image.entry < 2 ^ 40 }
+    ensures judged { Judged (λ why. ⊥) (by_schedule run.now (setup_of run.now.config image)) (printed_of run.now.brief) (K.held out.old) (K.held out.new) result }
+    ensures unchanged { HasNoText (status_of_verdict result) → out.new ≡ out.old }
+    ensures fault { result ≡ Verdict.WriteFault → Rose (K.faults out.old) (K.faults out.new) }
+    ensures never { result ≢ Verdict.ReadFault }
 {
-    let image = laid_image(alloc, object, config.ram)?;
-    run_image(alloc, config, schedule, image)
-}
-
-/// The report of the run of an input, or the verdict where there is none.
-pub(crate) fn run_input(alloc: Global, run: &Run, input: Vec<u8>) -> Result<Report, Verdict>
-    requires limits { IsTrue (is_in_limits run.now.config) }
-    requires short { length input.items ≤ 67108864 }
-    ensures report { IfOk result (IsReportOfInput run.now input.items) }
-    ensures text { IfOk result IsPrintableReport }
-    ensures refused { IfErr result (IsRefusal run.now.config input.items) }
-{
-    match read_object(alloc, input, run.config.ram) {
-        Ok(object) => match run_object(alloc, run.config, run.schedule, object) {
-            Ok(report) => Ok(report),
-            Err(_) => Err(Verdict::OutOfMemory),
-        },
-        Err(ElfError::OutOfMemory) => Err(Verdict::OutOfMemory),
-        Err(error) => Err(Verdict::Refused(Refusal::Misformed(error))),
+    match run_image(alloc, run.config, run.schedule, image) {
+        Ok(report) => write_report(&report, run.brief, out),
+        Err(_) => Verdict::OutOfMemory,
     }
 }

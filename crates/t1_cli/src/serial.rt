@@ -1,34 +1,29 @@
 //! The serial command: words, an input and two outputs in, a status out.
-ghost use Rattle.std.specs.Prelude.{◌≡◌, ◌≢◌, ◌↔◌, ◌≤◌, length, map, string_bytes, None, IfOk, IfErr, IfSome, IsTrue, OnOk, OnErr};
+ghost use Rattle.std.specs.Prelude.{◌≡◌, ◌≢◌, ◌↔◌, ◌≤◌, map, string_bytes, None, IfOk, IfSome, IsTrue};
 ghost use Rattle.std.specs.Io.KnownBytes.{IsAtEnd};
-ghost use Rattle.t1_io.specs.Causes.{HasCause, Rose};
-ghost use Rattle.t1_io.specs.Held.{Grew, GrewPart};
-ghost use Rattle.t1_event.specs.Printable.{IsPrintableReport};
+ghost use Rattle.t1_io.specs.Causes.{Rose};
 ghost use Rattle.t1_elf.specs.Saved.{saved};
 ghost use Rattle.t1_gen.specs.Guests.{generated};
 ghost use Rattle.t1_cli.specs.Made.{asm_of, dis_of};
-ghost use Rattle.t1_cli.specs.Runs.{printed_of};
 ghost use Rattle.t1_cli.specs.Statuses.{status_of_verdict};
-ghost use Rattle.t1_cli.specs.Serial.{WasLeft, HasText, HasNoText, AnswersTask, ReadsNothing, TellsLine};
-ghost use Rattle.t1_cli.specs.Verdict.{OfInput, IsUnread, Judged, Made, Checked, Guests, ServesTask, Tells};
+ghost use Rattle.t1_cli.specs.Headline.{ClaimsTask};
+ghost use Rattle.t1_cli.specs.Serial.{HasText, HasNoText, AnswersTask, ReadsNothing};
+ghost use Rattle.t1_cli.specs.Verdict.{OfInput, JudgedRun, Made, Checked, Guests, ServesTask, Tells};
 ghost use Rattle.t1_cli.specs.Words.{task_of, is_in_limits, IsTask};
 
 use crate::checks::write_verdict;
 use crate::command::{Run, Task};
-use crate::ended::ended;
-use crate::lines::verdict_line;
-use crate::refusal::Refusal;
-use crate::report::{MOST_INPUT, run_input};
+use crate::input::{load_input, read_input};
+use crate::lines::tell;
+use crate::report::write_run;
 use crate::status::Status;
 use crate::texts::{write_file, write_words};
 use crate::verdict::Verdict;
 use crate::words::read_task;
 use std::alloc::{AllocError, Global};
 use t1_elf::save;
-use t1_event::Report;
 use t1_gen::generate;
-use t1_io::{Failed, ReadError, Sink, Source, read_all, write_all};
-use t1_log::{print, print_brief};
+use t1_io::{Sink, Source, write_all};
 
 impl Verdict {
     /// The status that a verdict has.
@@ -53,68 +48,18 @@ impl Verdict {
     }
 }
 
-/// The whole input, or the verdict where it was not read.
-fn read_input<S: Source>(alloc: Global, input: &mut S) -> Result<Vec<u8>, Verdict>
-    ensures read { IfOk result (λ bytes. WasLeft (S.left input.old) bytes.items) }
-    ensures within { IfOk result (λ bytes. length bytes.items ≤ 67108864) }
-    ensures end { IfOk result (λ bytes. IsAtEnd (S.left input.new)) }
-    ensures unread { IfErr result (IsUnread (S.left input.old)) }
-    ensures fault { IfErr result (λ verdict. verdict ≡ Verdict.ReadFault → Rose (S.faults input.old) (S.faults input.new)) }
-{
-    match read_all(alloc, input, MOST_INPUT) {
-        Ok(bytes) => Ok(bytes),
-        Err(ReadError::Failed) => Err(Verdict::ReadFault),
-        Err(ReadError::TooLong) => Err(Verdict::Refused(Refusal::TooLong)),
-        Err(ReadError::OutOfMemory) => Err(Verdict::OutOfMemory),
-    }
-}
-
-/// Writes the log of a report, or its summary.
-fn print_report<K: Sink>(report: &Report, brief: bool, out: &mut K) -> Result<(), Failed>
-    requires { IsPrintableReport report.now }
-    ensures cause { HasCause (K.faults out.old) (K.faults out.new) result }
-    ensures all { OnOk result (Grew (K.held out.old) (K.held out.new) (printed_of brief report.now)) }
-    ensures part { OnErr result (GrewPart (K.held out.old) (K.held out.new) (printed_of brief report.now)) }
-{
-    if brief {
-        print_brief(report, out)
-    } else {
-        print(report, out)
-    }
-}
-
-/// Writes what comes of the run of an input. No memory is taken after the first step of the run.
-fn write_run<K: Sink>(alloc: Global, run: &Run, input: Vec<u8>, out: &mut K) -> Verdict
-    requires limits { IsTrue (is_in_limits run.now.config) }
-    requires short { length input.items ≤ 67108864 }
-    ensures judged { Judged run.now input.items (K.held out.old) (K.held out.new) result }
-    ensures unchanged { HasNoText (status_of_verdict result) → out.new ≡ out.old }
-    ensures fault { result ≡ Verdict.WriteFault → Rose (K.faults out.old) (K.faults out.new) }
-    ensures never { result ≢ Verdict.ReadFault }
-{
-    match run_input(alloc, run, input) {
-        Ok(report) => {
-            if print_report(&report, run.brief, out).is_err() {
-                return Verdict::WriteFault;
-            }
-            ended(report.traces.as_slice())
-        }
-        Err(verdict) => verdict,
-    }
-}
-
 /// Reads an ELF file, runs it and writes its log or summary.
 fn serve_run<S: Source, K: Sink>(alloc: Global, run: &Run, input: &mut S, out: &mut K) -> Verdict
     requires { IsTrue (is_in_limits run.now.config) }
-    ensures serves { OfInput (S.left input.old) (λ bytes. Judged run.now bytes (K.held out.old) (K.held out.new) result) }
+    ensures serves { OfInput (S.left input.old) (λ bytes. JudgedRun run.now bytes (K.held out.old) (K.held out.new) result) }
     ensures usage { result ≢ Verdict.Usage }
     ensures unchanged { HasNoText (status_of_verdict result) → out.new ≡ out.old }
     ensures read_fault { result ≡ Verdict.ReadFault → Rose (S.faults input.old) (S.faults input.new) }
     ensures write_fault { result ≡ Verdict.WriteFault → Rose (K.faults out.old) (K.faults out.new) }
     ensures end { HasText (status_of_verdict result) → IsAtEnd (S.left input.new) }
 {
-    match read_input(alloc, input) {
-        Ok(bytes) => write_run(alloc, run, bytes, out),
+    match load_input(alloc, &run.config, input) {
+        Ok(image) => write_run(alloc, run, image, out),
         Err(verdict) => verdict,
     }
 }
@@ -217,13 +162,6 @@ fn serve<S: Source, K: Sink>(
     }
 }
 
-/// Writes a line, or a front of it where a fault comes.
-fn tell<E: Sink>(err: &mut E, line: &[u8])
-    ensures { TellsLine (E.faults err.old) (E.faults err.new) (E.held err.old) (E.held err.new) line.now }
-{
-    let _ = write_all(err, line);
-}
-
 /// Serves a command: reads its input, writes its text to `out`, and one line to `err` where the
 /// status is not good.
 ///
@@ -231,7 +169,7 @@ fn tell<E: Sink>(err: &mut E, line: &[u8])
 /// with `--brief` its summary; `asm` takes an assembly text and writes its ELF file; `dis` takes an ELF
 /// file and writes a line for each of its words; `check` takes a log and writes whether its order is a
 /// memory order that obeys total store order; `gen` reads nothing and writes the ELF file of a guest.
-/// Until there are the threads, all other words are answered as those that are not in the form.
+/// All other words, those of the run in threads among them, are answered as those that are not in the form.
 pub fn t1_serial<S: Source, K: Sink, E: Sink>(
     alloc: Global,
     words: &[String],
@@ -241,6 +179,7 @@ pub fn t1_serial<S: Source, K: Sink, E: Sink>(
 ) -> Status
     // When each status comes.
     ensures usage { (result ≡ Status.Usage) ↔ (task_of (map string_bytes words.now) ≡ None) }
+    ensures headline { ClaimsTask (task_of (map string_bytes words.now)) (S.left input.old) (K.held out.old) (K.held out.new) result }
     ensures answers { AnswersTask (task_of (map string_bytes words.now)) (S.left input.old) (S.left input.new) (K.held out.old) (K.held out.new) result }
     ensures read_fault { result ≡ Status.ReadFault → Rose (S.faults input.old) (S.faults input.new) }
     ensures write_fault { result ≡ Status.WriteFault → Rose (K.faults out.old) (K.faults out.new) }
@@ -248,10 +187,10 @@ pub fn t1_serial<S: Source, K: Sink, E: Sink>(
     // What is read, and what is written.
     ensures unread { ReadsNothing (task_of (map string_bytes words.now)) → input.new ≡ input.old }
     ensures unchanged { HasNoText result → out.new ≡ out.old }
-    ensures line { Tells (task_of (map string_bytes words.now)) (S.left input.old) (K.held out.old) (K.held out.new) (E.faults err.old) (E.faults err.new) (E.held err.old) (E.held err.new) result }
+    ensures line { Tells (ServesTask (task_of (map string_bytes words.now)) (S.left input.old) (K.held out.old) (K.held out.new)) (E.faults err.old) (E.faults err.new) (E.held err.old) (E.held err.new) result }
 {
     let asked = read_task(words);
     let verdict = serve(alloc, asked, input, out);
-    tell(err, verdict_line(verdict).as_slice());
+    tell(err, verdict);
     verdict.status()
 }

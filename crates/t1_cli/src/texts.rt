@@ -8,8 +8,8 @@ ghost use Rattle.t1_cli.specs.Serial.{HasNoText};
 ghost use Rattle.t1_cli.specs.Statuses.{status_of_verdict};
 ghost use Rattle.t1_cli.specs.Verdict.{FaultTold, Made};
 
+use crate::input::read_object;
 use crate::refusal::Refusal;
-use crate::report::read_object;
 use crate::verdict::Verdict;
 use std::alloc::Global;
 use t1_asm::{AsmError, AsmKind};

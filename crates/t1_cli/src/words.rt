@@ -380,7 +380,7 @@ fn schedule_of(seed: Option<u64>) -> Schedule
     }
 }
 
-/// What is served of a command today.
+/// What is served of a command on one thread.
 pub(crate) fn read_task(words: &[String]) -> Option<Task>
     ensures value { result ≡ task_of (map string_bytes words.now) }
     ensures valid { IfSome result IsTask }

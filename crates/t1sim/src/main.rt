@@ -1,4 +1,4 @@
-//! The program t1sim: it hands its words and the standard streams to the serial command, and ends
+//! The program t1sim: it hands its words and the standard streams to the top command, and ends
 //! with the number of its status.
 #![tactic(auto)]
 
@@ -8,8 +8,10 @@ use std::alloc::Global;
 use std::env::{self, Args};
 use std::io;
 use std::process::ExitCode;
-use t1_cli::{Status, t1_serial};
+use t1_cli::Status;
 use t1_io::{Sink, StdSink, StdSource, write_all};
+use t1_live::FreeGate;
+use t1_top::t1_top;
 
 /// The words after the program's name.
 fn words(alloc: Global, args: Args) -> io::Result<Vec<String>> {
@@ -39,7 +41,15 @@ fn main(rt: HostRuntime) -> ExitCode {
         Ok(words) => {
             let mut input = StdSource::new(rt.stdin());
             let mut out = StdSink::new(rt.stdout());
-            t1_serial(rt.alloc(), words.as_slice(), &mut input, &mut out, &mut err)
+            t1_top(
+                &rt,
+                rt.alloc(),
+                words.as_slice(),
+                &mut input,
+                &mut out,
+                &mut err,
+                &FreeGate,
+            )
         }
         Err(error) => wordless(error, &mut err),
     };

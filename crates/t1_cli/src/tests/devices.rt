@@ -1,7 +1,7 @@
 //! Devices that fail, and inputs that are too long.
 
 use super::{CALM, Plan, RUN, STORE_AND_LOAD, file_of, serve, words_of};
-use crate::report::MOST_INPUT;
+use crate::input::MOST_INPUT;
 use crate::serial::t1_serial;
 use std::test::Fail;
 use t1_io::{Failed, MemSink, Source};

@@ -4,27 +4,13 @@ use super::{CALM, Came, serve};
 use std::alloc::Global;
 use std::fmt::Write;
 use std::test::Fail;
+use t1_guests::{counter, last_got, last_put, message, store_membar_load, two_readers};
 
 /// Assembles a guest, and runs it.
 fn run(alloc: Global, line: &str, guest: &str) -> Result<Came, Fail> {
     let text = Vec::from_slice(alloc, guest.as_bytes())?;
     let file = serve(alloc, "asm", text, CALM)?.out;
     Ok(serve(alloc, line, file, CALM)?)
-}
-
-/// The last value that was got at an address by accesses of a kind, of one strand.
-fn last_got(log: &[u8], strand: u32, kind: &str, addr: &str) -> Result<Option<u64>, Fail> {
-    let mut last = None;
-    for line in str::from_utf8(log)?.lines() {
-        let mut fields = line.split(" ");
-        let is_item = fields.next() == Some("i");
-        let of: u32 = fields.next().unwrap_or("").parse().unwrap_or(u32::MAX);
-        let is_its = is_item && of == strand && fields.nth(1) == Some(kind);
-        if is_its && fields.next() == Some(addr) {
-            last = Some(u64::from_str_radix(fields.nth(1).unwrap_or(""), 16)?);
-        }
-    }
-    Ok(last)
 }
 
 /// Runs a guest by turns and by seeds 0 to 9.
@@ -94,35 +80,10 @@ const STORE_AND_LOAD_A_BYTE: &str = "\
         wr %g0, 0, %asr26
 ";
 
-#[test]
-fn a_strand_sees_its_own_store(rt: HostRuntime) -> Result<(), Fail> {
-    let line = "run --cores 1 --strands 1 --ram 65536 --budget 10";
-    for came in by_each_schedule(rt.alloc(), line, STORE_AND_LOAD_A_BYTE)?.as_slice() {
-        assert_eq!(rt; came.status, 0);
-        assert_eq!(rt;
-            last_got(came.out.as_slice(), 0, "load", "0000000203")?,
-            Some(5)
-        );
-    }
-    Ok(())
-}
-
-/// Strand s stores 1 to 800 hex + 400 hex * s and loads the other's line.
-const STORE_THEN_LOAD: &str = "\
-        .org 0x100
-        sllx %o0, 10, %g1
-        xor %g1, 0x400, %g2
-        mov 1, %g3
-        stx %g3, [%g1 + 0x800]
-        membar #StoreLoad
-        ldx [%g2 + 0x800], %g4
-        wr %g0, 0, %asr26
-";
-
-/// The same without the membar.
+/// Two strands of which each stores and loads the other's line, without the membar between.
 fn unfenced(alloc: Global) -> Result<String, Fail> {
     let mut guest = String::new(alloc);
-    for line in STORE_THEN_LOAD
+    for line in store_membar_load()
         .lines()
         .filter(|line| !line.contains("membar"))
     {
@@ -132,11 +93,17 @@ fn unfenced(alloc: Global) -> Result<String, Fail> {
 }
 
 /// What the two loads got.
-fn two_loads(log: &[u8]) -> Result<(Option<u64>, Option<u64>), Fail> {
-    let first = last_got(log, 0, "load", "0000000c00")?;
-    let second = last_got(log, 1, "load", "0000000800")?;
-    Ok((first, second))
+fn two_loads(log: &str) -> (Option<&str>, Option<&str>) {
+    (
+        last_got(log, "0", "load", "0000000c00"),
+        last_got(log, "1", "load", "0000000800"),
+    )
 }
+
+/// A load of eight bytes that got 0, and one that got 1.
+const ZERO: Option<&str> = Some("0000000000000000");
+
+const ONE: Option<&str> = Some("0000000000000001");
 
 #[test]
 fn two_loads_may_pass_the_stores_before_them(rt: HostRuntime) -> Result<(), Fail> {
@@ -148,85 +115,34 @@ fn two_loads_may_pass_the_stores_before_them(rt: HostRuntime) -> Result<(), Fail
     let mut seeded = String::from_str(rt.alloc(), line)?;
     seeded.push_str(" --seed 18")?;
     let came = run(rt.alloc(), seeded.as_str(), guest.as_str())?;
-    assert_eq!(rt; two_loads(came.out.as_slice())?, (Some(0), Some(0)));
+    assert_eq!(rt;
+        two_loads(str::from_utf8(came.out.as_slice())?),
+        (ZERO, ZERO)
+    );
     Ok(())
 }
 
 #[test]
 fn one_of_two_loads_sees_a_store_behind_a_membar(rt: HostRuntime) -> Result<(), Fail> {
     let line = "run --cores 2 --strands 1 --ram 65536 --budget 20";
-    for came in by_each_schedule(rt.alloc(), line, STORE_THEN_LOAD)?.as_slice() {
+    for came in by_each_schedule(rt.alloc(), line, store_membar_load())?.as_slice() {
         assert_eq!(rt; came.status, 0);
-        let (first, second) = two_loads(came.out.as_slice())?;
-        assert!(rt; first == Some(1) || second == Some(1));
+        let (first, second) = two_loads(str::from_utf8(came.out.as_slice())?);
+        assert!(rt; first == ONE || second == ONE);
     }
     Ok(())
 }
-
-/// Strand 0 stores 1 to 8040 and then to 8080 hex. Strand 1 loads 8040, loads 8080 until it is not 0, and
-/// loads 8040.
-const MESSAGE: &str = "\
-        .org 0x100
-        sethi %hi(0x8000), %g1
-        cmp %o0, 0
-        bne reader
-        mov 1, %g2
-        stx %g2, [%g1 + 0x40]
-        stx %g2, [%g1 + 0x80]
-        wr %g0, 0, %asr26
-reader: ldx [%g1 + 0x40], %g3
-again:  ldx [%g1 + 0x80], %g4
-        cmp %g4, 0
-        be %xcc, again
-        nop
-        ldx [%g1 + 0x40], %g5
-        wr %g0, 0, %asr26
-";
-
-#[test]
-fn a_message_is_seen_after_its_flag(rt: HostRuntime) -> Result<(), Fail> {
-    let line = "run --cores 2 --strands 1 --ram 65536";
-    for came in by_each_schedule(rt.alloc(), line, MESSAGE)?.as_slice() {
-        assert_eq!(rt; came.status, 0);
-        assert_eq!(rt;
-            last_got(came.out.as_slice(), 1, "load", "0000008040")?,
-            Some(1)
-        );
-    }
-    Ok(())
-}
-
-/// Strand 0 stores 1 to 8040 hex and strand 1 to 8080. Strand 2 loads 8040 and then 8080, strand 3 loads
-/// 8080 and then 8040.
-const TWO_READERS: &str = "\
-        .org 0x100
-        sethi %hi(0x8000), %g1
-        mov 1, %g2
-        sub %o0, 2, %g3
-        brlz %g3, writer
-        sll %o0, 6, %g4
-        sll %g3, 6, %g5
-        add %g1, %g5, %g6
-        ldx [%g6 + 0x40], %g7
-        xor %g5, 0x40, %g5
-        add %g1, %g5, %g6
-        ldx [%g6 + 0x40], %g7
-        wr %g0, 0, %asr26
-writer: add %g1, %g4, %g6
-        stx %g2, [%g6 + 0x40]
-        wr %g0, 0, %asr26
-";
 
 #[test]
 fn two_readers_see_two_stores_in_one_order(rt: HostRuntime) -> Result<(), Fail> {
     let line = "run --cores 4 --strands 1 --ram 65536";
-    for came in by_each_schedule(rt.alloc(), line, TWO_READERS)?.as_slice() {
+    for came in by_each_schedule(rt.alloc(), line, two_readers())?.as_slice() {
         assert_eq!(rt; came.status, 0);
-        let log = came.out.as_slice();
-        let third = last_got(log, 2, "load", "0000008040")? == Some(1)
-            && last_got(log, 2, "load", "0000008080")? == Some(0);
-        let fourth = last_got(log, 3, "load", "0000008080")? == Some(1)
-            && last_got(log, 3, "load", "0000008040")? == Some(0);
+        let log = str::from_utf8(came.out.as_slice())?;
+        let third = last_got(log, "2", "load", "0000008040") == ONE
+            && last_got(log, "2", "load", "0000008080") == ZERO;
+        let fourth = last_got(log, "3", "load", "0000008080") == ONE
+            && last_got(log, "3", "load", "0000008040") == ZERO;
         assert!(rt; !third || !fourth);
     }
     Ok(())
@@ -256,66 +172,38 @@ reader: ldx [%g1 + 0x80], %g4
 ";
 
 #[test]
-fn code_that_was_written_is_fetched_after_a_flush(rt: HostRuntime) -> Result<(), Fail> {
-    let line = "run --cores 2 --strands 1 --ram 65536";
-    for came in by_each_schedule(rt.alloc(), line, WRITTEN_CODE)?.as_slice() {
-        assert_eq!(rt; came.status, 0);
-        assert_eq!(rt;
-            last_got(came.out.as_slice(), 1, "fetch", "0000000400")?,
-            Some(0xb580_2000)
-        );
+fn accesses_get_this_by_each_schedule(rt: HostRuntime) -> Result<(), Fail> {
+    // The cores, the guest, and a strand, a kind and an address with what the last such access got.
+    let table = [
+        ("1", STORE_AND_LOAD_A_BYTE, "0", "load", "0000000203", "05"),
+        (
+            "2",
+            message(),
+            "1",
+            "load",
+            "0000008040",
+            "0000000000000001",
+        ),
+        ("2", WRITTEN_CODE, "1", "fetch", "0000000400", "b5802000"),
+    ];
+    for (cores, guest, strand, kind, addr, got) in table {
+        let mut line = String::from_str(rt.alloc(), "run --strands 1 --ram 65536 --cores ")?;
+        line.push_str(cores)?;
+        for came in by_each_schedule(rt.alloc(), line.as_str(), guest)?.as_slice() {
+            assert_eq!(rt; came.status, 0);
+            let log = str::from_utf8(came.out.as_slice())?;
+            assert_eq!(rt; last_got(log, strand, kind, addr), Some(got));
+        }
     }
     Ok(())
 }
 
-/// Each strand adds 1 to 8000 hex, ten times, by compare and swap.
-const COUNTER: &str = "\
-        .org 0x100
-_start: sethi %hi(0x8000), %l0
-        mov 10, %l1
-again:  ldx [%l0], %g1
-        add %g1, 1, %g2
-        casx [%l0], %g1, %g2
-        cmp %g1, %g2
-        bne %xcc, again
-        nop
-        subcc %l1, 1, %l1
-        bne %xcc, again
-        nop
-        wr %g0, 0, %asr26
-";
-
-/// What the last atomic of the memory order that wrote put, in digits.
-fn last_put(alloc: Global, log: &str) -> Result<String, Fail> {
-    let mut writes = Vec::new(alloc);
-    for line in log.lines() {
-        if let Some((head, fields)) = line.split_once(" atomic ") {
-            let put = fields.split(" ").nth(3).unwrap_or("-");
-            if put != "-" {
-                writes.push((head.strip_prefix("i ").unwrap_or(""), put))?;
-            }
-        }
-    }
-    let mut last = writes.len();
-    for line in log.lines() {
-        if let Some(place) = line.strip_prefix("o ") {
-            if let Some(number) = writes.iter().position(|(at, _)| *at == place) {
-                last = number;
-            }
-        }
-    }
-    match writes.get(last) {
-        Some((_, put)) => Ok(String::from_str(alloc, put)?),
-        None => Ok(String::new(alloc)),
-    }
-}
-
 #[test]
 fn counts_of_32_strands_come_to_320(rt: HostRuntime) -> Result<(), Fail> {
-    let came = run(rt.alloc(), "run --ram 65536 --budget 3000", COUNTER)?;
+    let came = run(rt.alloc(), "run --ram 65536 --budget 3000", counter())?;
     assert_eq!(rt; came.status, 0);
     let put = last_put(rt.alloc(), str::from_utf8(came.out.as_slice())?)?;
-    assert_eq!(rt; put.as_str(), "0000000000000140");
+    assert_eq!(rt; put, Some("0000000000000140"));
     Ok(())
 }
 

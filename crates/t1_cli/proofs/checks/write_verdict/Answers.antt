@@ -1,6 +1,5 @@
-use Rattle.std.proofs.Common.{◌≡◌, ◌∙◌, sym}
+use Rattle.std.proofs.Common.{◌∙◌, sym}
 use Rattle.t1_io.specs.Held.{Grew, GrewPart}
-use Rattle.t1_log.specs.Log.{text_of}
 use Rattle.t1_read.proofs.Words.{can_be_checked}
 use Rattle.t1_cli.specs.Checks.{checked_line}
 use Rattle.t1_cli.proofs.Judging.{checked_so, went_well, went_wrong}

@@ -1,6 +1,6 @@
 use Rattle.t1_num.specs.MemoryLaws.{AreBytes}
 use Rattle.t1_machine.specs.Start.{setup_of}
-use Rattle.t1_cli.proofs.Reports.{is_report, has_text}
+use Rattle.t1_cli.proofs.Reports.{is_report}
 use Rattle.t1_cli.proofs.report.run_image.Goals as goal
 
 pub returns-clause-report : goal.returns-clause-report

@@ -1,14 +1,21 @@
 use Rattle.std.proofs.Common.{refl}
-use Rattle.t1_cli.proofs.Inputs.{not_read, unread_run}
+use Rattle.t1_cli.specs.Runs.{by_schedule, printed_of}
+use Rattle.t1_cli.proofs.Inputs.{not_loaded, not_loaded_judged, loaded_judged}
 use Rattle.t1_cli.proofs.serial.serve_run.Goals as goal
+
+pub returns-in-Ok-clause-serves : goal.returns-in-Ok-clause-serves
+returns-in-Ok-clause-serves g c =
+    loaded_judged c.args.run.now.config (by_schedule c.args.run.now) (printed_of c.args.run.now.brief) _ _ _ c.write_run.result c.in-Ok.image
+    c.in-Ok.ensures.image c.write_run.ensures.judged
 
 pub returns-in-Err : goal.returns-in-Err
 returns-in-Err g c =
     let left = g.S.Source.left c.args.input.now in
     let held = g.K.Sink.held c.args.out.now in
-    let none = not_read left c.in-Err.verdict c.in-Err.ensures.unread in
+    let none = not_loaded c.args.run.now.config left c.in-Err.verdict c.in-Err.ensures.unloaded in
     record {
-      serves = unread_run c.args.run.now left held held c.in-Err.verdict c.in-Err.ensures.unread;
+      serves = not_loaded_judged c.args.run.now.config (by_schedule c.args.run.now) (printed_of c.args.run.now.brief) left held held c.in-Err.verdict
+          c.in-Err.ensures.unloaded;
       usage = none.usage;
       unchanged = λ _. refl;
       read_fault = c.in-Err.ensures.fault;

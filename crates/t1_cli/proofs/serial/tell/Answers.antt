@@ -1,5 +1,0 @@
-use Rattle.t1_cli.proofs.Verdicts.{told}
-use Rattle.t1_cli.proofs.serial.tell.Goals as goal
-
-pub returns : goal.returns
-returns g c = told _ _ _ _ _ c.write_all.result c.write_all.ensures.cause c.write_all.ensures.all c.write_all.ensures.part

@@ -1,0 +1,5 @@
+mod Masks
+mod Blanks
+mod Kills
+mod Histories
+mod Machines
