@@ -1,11 +1,13 @@
 -- A core pays for each exec, turn and drain of its strands.
-use Rattle.std.proofs.Common.{◌≡◌, ◌≤◌, ◌+◌, ◌*◌, ℕ, Bool, true, false, is_none, List, [], ◌∷◌, set, get_or, Option, Some, None, refl, ap, arith, if◌then◌else◌}
+use Rattle.std.proofs.Common.{◌≡◌, ◌≤◌, ◌+◌, ◌*◌, ℕ, Bool, true, false, is_none, List, [], ◌∷◌, set, get_or, Option, Some, None, refl, ap, sym, subst, arith, if◌then◌else◌}
+use Rattle.std.specs.Prelude.{IsSome}
 use Rattle.std.specs.List.{slice_get, All}
 use Rattle.std.proofs.lemmas.List.Elements.{All-set}
 use Rattle.t1_shape.specs.Shapes.Shape.{T1}
 use Rattle.t1_packet.specs.Ops.{op_dest}
 use Rattle.t1_sbuf.specs.declared.entry.Entry.{Entry}
-use Rattle.t1_sbuf.specs.Entries.{are_unsent, next_unsent, next_to_send_of, sent_next}
+use Rattle.t1_sbuf.specs.Entries.{next_unsent, next_to_send_of, sent_next}
+use Rattle.t1_sbuf.proofs.Sent.{next_if}
 use Rattle.t1_select.proofs.Places.{is_first}
 use Rattle.t1_core.specs.declared.asker.Asker.{Asker}
 use Rattle.t1_core.specs.declared.answers.Did.{Did}
@@ -113,13 +115,8 @@ unfolding sent_next
 next_sent w [] g h = let clash : ◌≡◌ {A = Option Entry} None (Some g) = h in cc
 next_sent w (e ∷ es) g h = sent_if e.sent w e g es refl (λ k. next_sent w es g k) h
 
-where_unsent : (b : Bool) (o : Option Entry) (g : Entry) → (if b then o else None) ≡ Some g → o ≡ Some g
-where_unsent true o g h = h
-where_unsent false o g h = let clash : ◌≡◌ {A = Option Entry} None (Some g) = h in cc
-
 sent_weight : (w : Weights) (es : List Entry) (g : Entry) → next_to_send_of es ≡ Some g → buffer_weight w (sent_next es) + w.store ≡ buffer_weight w es
-unfolding next_to_send_of
-sent_weight w es g h = next_sent w es g (where_unsent (are_unsent es) (next_unsent es) g h)
+sent_weight w es g h = let n = next_if es (subst IsSome (sym h) refl) in next_sent w es n.0 n.1.is
 
 next_pays : (w : Weights) → Falls w → (x : Asker) (t : ThreadState) (o : Option Entry) → next_to_send_of t.stores ≡ o → IsLive t → Drains w t (drain_next x t o)
 next_pays w f x t None e live = tt

@@ -4,3 +4,4 @@ pub mod Inputs
 pub mod Endings
 pub mod Verdicts
 pub mod Judging
+pub mod Headlines

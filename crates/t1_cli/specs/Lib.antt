@@ -7,3 +7,4 @@ pub mod Codes
 pub mod Statuses
 pub mod Serial
 pub mod Verdict
+pub mod Headline

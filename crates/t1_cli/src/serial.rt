@@ -6,6 +6,7 @@ ghost use Rattle.t1_elf.specs.Saved.{saved};
 ghost use Rattle.t1_gen.specs.Guests.{generated};
 ghost use Rattle.t1_cli.specs.Made.{asm_of, dis_of};
 ghost use Rattle.t1_cli.specs.Statuses.{status_of_verdict};
+ghost use Rattle.t1_cli.specs.Headline.{ClaimsTask};
 ghost use Rattle.t1_cli.specs.Serial.{HasText, HasNoText, AnswersTask, ReadsNothing};
 ghost use Rattle.t1_cli.specs.Verdict.{OfInput, JudgedRun, Made, Checked, Guests, ServesTask, Tells};
 ghost use Rattle.t1_cli.specs.Words.{task_of, is_in_limits, IsTask};
@@ -178,6 +179,7 @@ pub fn t1_serial<S: Source, K: Sink, E: Sink>(
 ) -> Status
     // When each status comes.
     ensures usage { (result ≡ Status.Usage) ↔ (task_of (map string_bytes words.now) ≡ None) }
+    ensures headline { ClaimsTask (task_of (map string_bytes words.now)) (S.left input.old) (K.held out.old) (K.held out.new) result }
     ensures answers { AnswersTask (task_of (map string_bytes words.now)) (S.left input.old) (S.left input.new) (K.held out.old) (K.held out.new) result }
     ensures read_fault { result ≡ Status.ReadFault → Rose (S.faults input.old) (S.faults input.new) }
     ensures write_fault { result ≡ Status.WriteFault → Rose (K.faults out.old) (K.faults out.new) }

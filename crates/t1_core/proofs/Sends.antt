@@ -1,10 +1,10 @@
 -- The stores of a strand that are sent, and their times.
-use Rattle.std.proofs.Common.{◌≡◌, ◌+◌, ◌<◌, ◌≤◌, ℕ, zero, suc, Bool, true, false, if◌then◌else◌, List, [], ◌∷◌, ◌++◌, length, drop, Option, Some, None, refl, ap, sym, ◌∙◌, subst, arith}
-use Rattle.std.specs.Prelude.{IsSome, IsSomeAnd, IsTrue}
-use Rattle.std.specs.List.{slice_get, remove}
+use Rattle.std.proofs.Common.{◌≡◌, ◌+◌, ◌<◌, ◌≤◌, ℕ, true, false, List, [], ◌∷◌, ◌++◌, length, Option, Some, None, inl, inr, refl, sym, ◌∙◌, subst, arith, length-append}
+use Rattle.std.specs.Prelude.{IsSome}
+use Rattle.std.specs.List.{remove}
 use Rattle.t1_sbuf.specs.declared.entry.Entry.{Entry}
-use Rattle.t1_sbuf.specs.Entries.{next_to_send_of, sent_next, IsOldestSent}
-use Rattle.t1_sbuf.proofs.Sent.{oldest_unsent, some_to_send}
+use Rattle.t1_sbuf.specs.Entries.{next_unsent, next_to_send_of, sent_next, IsOldestSent}
+use Rattle.t1_sbuf.proofs.Sent.{next_if, next_after, sent_after, sent_here}
 use Rattle.t1_core.specs.Stores.{AreSent}
 
 -- a store enters that is not sent
@@ -14,32 +14,33 @@ sent_push [] (t ∷ ts) e a is = absurd a
 sent_push (f ∷ es) [] e a is = (a.0, sent_push es [] e a.1 is)
 sent_push (f ∷ es) (t ∷ ts) e a is = (a.0, sent_push es ts e a.1 is)
 
--- where one may be sent none is
-pub none_sent : (es : List Entry) (ts : List ℕ) → AreSent es ts → IsSome (next_to_send_of es) → ts ≡ []
-none_sent es [] a some = refl
-none_sent [] (t ∷ ts) a some = absurd a
-none_sent (e ∷ es) (t ∷ ts) a some =
-    let off : e.sent ≡ false = oldest_unsent (e ∷ es) e some refl in
-    absurd (let clash : true ≡ false = sym a.0 ∙ off in cc)
+-- the next one is sent
+next_sent : (es : List Entry) (ts : List ℕ) (t : ℕ) (e : Entry) → next_unsent es ≡ Some e → AreSent es ts → AreSent (sent_next es) (ts ++ t ∷ [])
+next_sent [] ts t e h a = let clash : ◌≡◌ {A = Option Entry} None (Some e) = h in cc
+next_sent (d ∷ ds) [] t e h a = subst (λ (es : List Entry). AreSent es (t ∷ [])) (sym (sent_here d ds a.0)) (refl, a.1)
+next_sent (d ∷ ds) (u ∷ us) t e h a =
+    let next : next_unsent ds ≡ Some e = elim (next_after d.sent d e (next_unsent ds) h) [
+      | inl p ↦ p.1
+      | inr p ↦ absurd (let clash : true ≡ false = sym a.0 ∙ p.0 in cc)
+    ] in
+    subst (λ (es : List Entry). AreSent es (u ∷ us ++ t ∷ [])) (sym (sent_after d ds a.0)) (a.0, next_sent ds us t e next a.1)
 
-marked_sent : (s : Bool) (e : Entry) (es next : List Entry) (t : ℕ) → s ≡ false → AreSent es [] → AreSent (if s then e ∷ next else record e { sent = true } ∷ es) (t ∷ [])
-marked_sent true e es next t h a = absurd (let clash : true ≡ false = h in cc)
-marked_sent false e es next t h a = (refl, a)
-
-sent_one : (es : List Entry) (t : ℕ) → AreSent es [] → IsSome (next_to_send_of es) → AreSent (sent_next es) (t ∷ [])
-unfolding sent_next
-sent_one [] t a some = absurd (let low : 0 < 0 = some_to_send [] some in omega (arith, low))
-sent_one (e ∷ es) t a some = marked_sent e.sent e es (sent_next es) t a.0 a.1
-
--- it is sent
 pub sent_more : (es : List Entry) (ts : List ℕ) (t : ℕ) → AreSent es ts → IsSome (next_to_send_of es) → AreSent (sent_next es) (ts ++ t ∷ [])
-sent_more es ts t a some =
-    let none : ts ≡ [] = none_sent es ts a some in
-    subst (λ (xs : List ℕ). AreSent (sent_next es) (xs ++ t ∷ [])) (sym none) (sent_one es t (subst (λ (xs : List ℕ). AreSent es xs) none a) some)
+sent_more es ts t a some = let n = next_if es some in next_sent es ts t n.0 n.1.is a
 
--- there is room for its time
-pub room_for_time : (es : List Entry) (ts : List ℕ) → AreSent es ts → IsSome (next_to_send_of es) → length ts ≡ 0
-room_for_time es ts a some = ap (λ (xs : List ℕ). length xs) (none_sent es ts a some)
+-- no more times than stores
+pub times_few : (es : List Entry) (ts : List ℕ) → AreSent es ts → length ts ≤ length es
+times_few [] [] a = omega arith
+times_few [] (t ∷ ts) a = absurd a
+times_few (e ∷ es) [] a = omega arith
+times_few (e ∷ es) (t ∷ ts) a = let f = times_few es ts a.1 in omega (arith, f)
+
+-- there is room for the time of the next one
+pub room_for_time : (es : List Entry) (ts : List ℕ) → AreSent es ts → IsSome (next_to_send_of es) → length (sent_next es) ≤ 8 → length ts < 8
+room_for_time es ts a some few =
+    let more : length (ts ++ 0 ∷ []) ≤ length (sent_next es) = times_few (sent_next es) (ts ++ 0 ∷ []) (sent_more es ts 0 a some) in
+    let one : length (ts ++ 0 ∷ []) ≡ length ts + 1 = length-append ts (0 ∷ []) in
+    omega arith
 
 -- the oldest is acknowledged, and leaves with its time
 pub some_time : (es : List Entry) (ts : List ℕ) → AreSent es ts → IsOldestSent es → 0 < length ts

@@ -1,6 +1,7 @@
 -- One strand of a core: its state, where it stands in its unit, its stores and its trace; and each
 -- thing that happens to it.
 use Rattle.std.specs.Prelude.{ℕ, ◌==◌, false, drop, if◌then◌else◌, List, [], ◌∷◌, ◌++◌, length, slice_get, set, Option, Some, None}
+use Rattle.t1_shape.specs.Shapes.Shape.{T1}
 use Rattle.t1_decode.specs.Words.{insn_of}
 use Rattle.t1_state.specs.declared.strand.Strand.{Strand}
 use Rattle.t1_state.specs.declared.strand.Entered.{Entered}
@@ -13,6 +14,7 @@ use Rattle.t1_exec.specs.Needs.{need_of}
 use Rattle.t1_exec.specs.Meanings.{after_of}
 use Rattle.t1_packet.specs.declared.op.Op.{Op}
 use Rattle.t1_packet.specs.declared.op.Op.TheVariants as op
+use Rattle.t1_packet.specs.Ops.{dest_of}
 use Rattle.t1_event.specs.declared.item.Item.{Item}
 use Rattle.t1_event.specs.declared.item.How.{How}
 use Rattle.t1_event.specs.declared.trace.Ending.TheVariants as ending
@@ -98,7 +100,7 @@ value_came ram t value how = unit_done t value (placed (read_item (thread_need r
 -- a store enters the buffer
 unfoldable pub stored : ThreadState → ℕ → ℕ → ℕ → ThreadState
 stored t addr size value =
-    let e : Entry = record { item = length t.items; addr = addr; size = size; value = value; sent = false } in
+    let e : Entry = record { item = length t.items; addr = addr; size = size; value = value; sent = false; dest = dest_of T1 addr } in
     record (unit_done t 0 (store_item addr size value ∷ [])) { stores = t.stores ++ e ∷ [] }
 
 -- what a load or an atomic asks of its destination

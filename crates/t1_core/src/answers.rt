@@ -36,7 +36,7 @@ pub enum Drained {
     Sent { dest: u8, request: Request },
     /// The buffer is empty.
     Empty,
-    /// The oldest store is out.
+    /// Every store is out, or one is to another destination than that of the oldest that is not.
     Out,
     /// The request ring to this destination is full.
     NoRoom(u8),

@@ -173,9 +173,10 @@ impl Core {
         }
     }
 
-    /// Sends the oldest unsent store of a strand, where none of it is out and the ring has room: Empty
-    /// exactly where the buffer is empty, else Out exactly where the oldest store is sent, else NoRoom
-    /// exactly where the ring is full. What is not sent changes nothing.
+    /// Sends the oldest unsent store of a strand, where each that is sent goes to its destination and the
+    /// ring has room: Empty exactly where the buffer is empty, else Out exactly where every store is
+    /// sent or one that is sent goes to another destination, else NoRoom exactly where the ring is
+    /// full. What is not sent changes nothing.
     pub fn drain(&mut self, strand: u8, room: u16) -> Drained
         ensures core { self.new ≡ (drain_of self.old strand room).core }
         ensures did { result ≡ (drain_of self.old strand room).did }

@@ -15,9 +15,14 @@ pub const CONFIG: Config = Config {
 
 pub const NOP: u32 = 0x0100_0000;
 
-/// `stx %g0, [%g0+0x200]` and `stb %g0, [%g0+0x203]`.
+/// `stx %g0, [%g0+0x200]`, `stx %g0, [%g0+0x208]` and `stx %g0, [%g0+0x240]`.
 pub const STX: u32 = 0xc070_2200;
 
+const STX_BESIDE: u32 = 0xc070_2208;
+
+const STX_NEXT_BANK: u32 = 0xc070_2240;
+
+/// `stb %g0, [%g0+0x203]`.
 const STB: u32 = 0xc028_2203;
 
 /// `ldx [%g0+0x240], %g2` and `wr %g0, 0, %asr26`, which halts.
@@ -159,6 +164,54 @@ fn a_program_runs_to_its_end(rt: HostRuntime) -> Result<(), Fail> {
     assert_eq!(rt; (items[4].kind, items[4].got), (ItemKind::Load, 5));
     assert_eq!(rt; items[4].how, How::Forward { time: 1 });
     assert_eq!(rt; items[5].how, How::Hit { time: 1 });
+    Ok(())
+}
+
+/// A drain that sends a store of 0, with its ring and the core's time.
+fn sent(dest: u8, item: u32, addr: u64, seen: u32) -> Drained {
+    let op = Op::Store {
+        addr,
+        size: 8,
+        value: 0,
+    };
+    Drained::Sent {
+        dest,
+        request: Request {
+            core: 0,
+            strand: 0,
+            item,
+            seen,
+            op,
+        },
+    }
+}
+
+/// The bank answers the store that a drain sent, as commit `index`.
+fn acknowledge(core: &mut Core, index: u32, drained: Drained) {
+    if let Drained::Sent { request, .. } = drained {
+        core.take(&packet(index, reply_to(request.item, request.op, 0, None, [0; 32])));
+    }
+}
+
+#[test]
+fn stores_to_one_bank_are_out_at_once(rt: HostRuntime) -> Result<(), Fail> {
+    let mut core = Core::new(rt.alloc(), &CONFIG, 0, 0x100)?;
+    let words = [STX, STX_BESIDE, STX_NEXT_BANK, NOP, NOP, NOP, NOP, NOP];
+    do_line(&rt, &mut core, 0, &words);
+    let first = sent(0, 1, 0x200, 1);
+    let second = sent(0, 3, 0x208, 1);
+    let third = sent(1, 5, 0x240, 7);
+    assert_eq!(rt; core.drain(0, 31), first);
+    assert_eq!(rt; core.drain(0, 30), Drained::NoRoom(0));
+    assert_eq!(rt; core.drain(0, 31), second);
+    assert_eq!(rt; core.drain(0, 31), Drained::Out);
+    acknowledge(&mut core, 5, first);
+    assert_eq!(rt; core.drain(0, 31), Drained::Out);
+    acknowledge(&mut core, 6, second);
+    assert_eq!(rt; core.drain(0, 31), third);
+    assert_eq!(rt; core.drain(0, 31), Drained::Out);
+    acknowledge(&mut core, 7, third);
+    assert_eq!(rt; core.drain(0, 31), Drained::Empty);
     Ok(())
 }
 

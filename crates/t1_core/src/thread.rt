@@ -29,6 +29,7 @@ use t1_elf::Listed;
 use t1_event::{Ending, How, Item, ItemKind, Trace};
 use t1_exec::{Need, finish, issue};
 use t1_insn::Insn;
+use t1_packet::dest;
 use t1_sbuf::{Entry, Look, StoreBuffer};
 use t1_state::{Entered, Strand};
 
@@ -346,6 +347,7 @@ impl Thread {
             size,
             value,
             sent: false,
+            dest: dest(addr),
         };
         self.stores.push(entry);
         let item = item(ItemKind::Store, addr, size, 0, value, How::Unplaced);

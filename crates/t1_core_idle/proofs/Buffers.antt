@@ -17,7 +17,7 @@ use Rattle.t1_core_rule.specs.Outs.{store_request, stores_out, numbers_of}
 use Rattle.t1_core_rule.specs.Parts.{waiting_at, sending_at, part_of}
 use Rattle.t1_core_rule.specs.Steady.{IsSteady}
 use Rattle.t1_core_rule.specs.Laws.{history_of}
-use Rattle.t1_core_rule.proofs.Drains.{all_unsent, unsent_first}
+use Rattle.t1_core_rule.proofs.Nexts.{next_of_none_out}
 use Rattle.t1_core_rule.proofs.Walks.{history_steady}
 use Rattle.t1_core_idle.specs.Laws.{HasAllRoom, UndrainedBuffersAreEmpty}
 
@@ -38,7 +38,7 @@ module _ (x : Asker) (t : ThreadState) (room : HasAllRoom x.room) where
   stores_drain : (es : List Entry) → AreSent es [] → drained_by (drain_stores x t es).did ≡ [] → numbers_of es ≡ []
   stores_drain [] f none = refl
   stores_drain (e ∷ es) f none =
-      let next : next_to_send_of (e ∷ es) ≡ Some e = unsent_first e es f.0 (all_unsent es f.1) in
+      let next : next_to_send_of (e ∷ es) ≡ Some e = next_of_none_out e es f in
       absurd (next_drains e (subst (λ (o : Option Entry). drained_by (drain_next x t o).did ≡ []) next none))
 
   thread_drains : AreSent t.stores [] → drained_by (thread_drain x t).did ≡ [] → numbers_of t.stores ≡ []

@@ -26,7 +26,7 @@ use Rattle.t1_strand_order.specs.Tracks.{Track, Acknowledge, after}
 use Rattle.t1_strand_order.specs.Allowed.{IsAcknowledged}
 use Rattle.t1_strand_order.specs.Kept.{IsKept}
 use Rattle.t1_strand_order.specs.Places.{ArePlacedRightly}
-use Rattle.t1_strand_order.specs.Laws.{one_at_a_time}
+use Rattle.t1_strand_order.specs.Laws.{one_destination}
 use Rattle.t1_strand_order.proofs.Items.{has_placed, placed_has_other, placed_has_same, length_placed, one_item, store_not_read}
 use Rattle.t1_strand_order.proofs.Histories.{events_keep_order, events_keep_places}
 use Rattle.t1_received.specs.Requests.{of_class, GoTo}
@@ -138,9 +138,9 @@ module _ (number ram clock budget : ℕ) (received : List Packet) (p : Packet) (
   come_at o = record {
     thread = record {
       budget_is = f.budget_is;
-      kept = subst (λ (v : Track). IsKept one_at_a_time v) (sym acked_track) (events_keep_order one_at_a_time (track_of ram clock t) (Acknowledge p.index) allowed f.kept);
+      kept = subst (λ (v : Track). IsKept (one_destination T1) v) (sym acked_track) (events_keep_order (one_destination T1) (track_of ram clock t) (Acknowledge p.index) allowed f.kept);
       right = subst (λ (v : Track). ArePlacedRightly T1 ram (came.later number ram clock budget received p le) v) (sym acked_track)
-          (events_keep_places T1 ram (came.caches number ram clock budget received p le) (came.later number ram clock budget received p le) one_at_a_time (track_of ram clock t) (Acknowledge p.index)
+          (events_keep_places T1 ram (came.caches number ram clock budget received p le) (came.later number ram clock budget received p le) (one_destination T1) (track_of ram clock t) (Acknowledge p.index)
           allowed f.kept (came.up_to number ram clock budget received p le) tt f.right);
       entries = entries_placed t.items e.item how rest own.1;
       times = λ k y h.

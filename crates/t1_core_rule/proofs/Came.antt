@@ -17,7 +17,7 @@ use Rattle.t1_strand_order.specs.Tracks.{Track, Answer, Pass, after}
 use Rattle.t1_strand_order.specs.Allowed.{IsAnswer}
 use Rattle.t1_strand_order.specs.Kept.{IsKept}
 use Rattle.t1_strand_order.specs.Places.{ArePlacedRightly, AreUpTo}
-use Rattle.t1_strand_order.specs.Laws.{one_at_a_time}
+use Rattle.t1_strand_order.specs.Laws.{one_destination}
 use Rattle.t1_strand_order.proofs.Items.{has_push, push_has, push_last}
 use Rattle.t1_strand_order.proofs.Histories.{events_keep_order, events_keep_places}
 use Rattle.t1_received.specs.Requests.{of_class, GoTo}
@@ -96,8 +96,8 @@ module _ (number ram clock budget : ℕ) (received : List Packet) (p : Packet) (
       let later_now : clock ≤ p.index + 1 = omega (arith, le) in
       record {
         budget_is = f.budget_is;
-        kept = events_keep_order one_at_a_time (track_of ram clock t) (Pass (p.index + 1)) later_now f.kept;
-        right = events_keep_places T1 ram caches later one_at_a_time (track_of ram clock t) (Pass (p.index + 1)) later_now f.kept up_to tt f.right;
+        kept = events_keep_order (one_destination T1) (track_of ram clock t) (Pass (p.index + 1)) later_now f.kept;
+        right = events_keep_places T1 ram caches later (one_destination T1) (track_of ram clock t) (Pass (p.index + 1)) later_now f.kept up_to tt f.right;
         entries = f.entries;
         times = λ k x h. old_time s t f k x h;
         way = f.way;
@@ -138,9 +138,9 @@ module _ (number ram clock budget : ℕ) (received : List Packet) (p : Packet) (
       read_come = record {
         thread = record {
           budget_is = a.budget ∙ f.budget_is;
-          kept = subst (λ (v : Track). IsKept one_at_a_time v) (sym answered_track) (events_keep_order one_at_a_time (track_of ram clock t) (Answer p.index a.item) allowed f.kept);
+          kept = subst (λ (v : Track). IsKept (one_destination T1) v) (sym answered_track) (events_keep_order (one_destination T1) (track_of ram clock t) (Answer p.index a.item) allowed f.kept);
           right = subst (λ (v : Track). ArePlacedRightly T1 ram later v) (sym answered_track)
-              (events_keep_places T1 ram caches later one_at_a_time (track_of ram clock t) (Answer p.index a.item) allowed f.kept up_to tt f.right);
+              (events_keep_places T1 ram caches later (one_destination T1) (track_of ram clock t) (Answer p.index a.item) allowed f.kept up_to tt f.right);
           entries = rw (a.items, a.stores) (entries_push t.items a.item t.stores f.entries);
           times = λ k y h.
               elim (split_item k y h) [

@@ -19,7 +19,7 @@ use Rattle.t1_packet.specs.Caches.{layout, filled_line, line_of}
 use Rattle.t1_packet.specs.declared.op.Op.{Op}
 use Rattle.t1_packet.specs.declared.op.Op.TheVariants as op
 use Rattle.t1_packet.specs.Data.{RequestData}
-use Rattle.t1_packet.specs.Ops.{op_dest, asked_way, is_store}
+use Rattle.t1_packet.specs.Ops.{dest_of, op_dest, asked_way, is_store}
 use Rattle.t1_sbuf.specs.declared.entry.Entry.{Entry}
 use Rattle.t1_sbuf.specs.declared.entry.Look.{Look}
 use Rattle.t1_sbuf.specs.declared.entry.Look.TheVariants as look
@@ -270,12 +270,12 @@ module _ (x : Asker) (blocks : x.ram % 65536 ≡ 0) (icache dcache : CacheState)
 
   -- ---- stores and barriers
 
-  pub stored_move : (word a z v : ℕ) → IsGoodEntry x.ram (record { item = length xs; addr = a; size = z; value = v; sent = false }) → length es < 8
+  pub stored_move : (word a z v : ℕ) → IsGoodEntry x.ram (record { item = length xs; addr = a; size = z; value = v; sent = false; dest = dest_of T1 a }) → length es < 8
       → Move (phase.Have word) (moved (stored (at_phase (phase.Have word)) a z v))
   unfolding stored unit_done
   stored_move word a z v good room =
       let y : Item = store_item a z v in
-      let e : Entry = record { item = length xs; addr = a; size = z; value = v; sent = false } in
+      let e : Entry = record { item = length xs; addr = a; size = z; value = v; sent = false; dest = dest_of T1 a } in
       let u : Strand = after_of s (insn_of word) 0 in
       let t' : ThreadState = record { strand = u; phase = next_phase u.units budget; stores = es ++ e ∷ []; times = ts; items = xs ++ y ∷ []; budget = budget } in
       record {

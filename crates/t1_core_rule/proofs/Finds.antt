@@ -12,7 +12,8 @@ use Rattle.t1_event.specs.Items.{items_of}
 use Rattle.t1_joint.specs.Lists.{IsIn, AreDistinct}
 use Rattle.t1_joint.specs.Waits.{HasItem}
 use Rattle.t1_joint.specs.CoreRule.{SeenAscends}
-use Rattle.t1_strand_order.specs.Kept.{Ascends}
+use Rattle.t1_strand_order.specs.Kept.{Ascends, IsSentWell, AreSentWell}
+use Rattle.t1_strand_order.specs.Laws.{one_destination}
 use Rattle.t1_strand_order.proofs.Items.{ascends_above}
 use Rattle.t1_received.specs.Requests.{is_of, of_class, sent_to}
 use Rattle.t1_received.proofs.Lists.{in_filter, filter_in}
@@ -120,6 +121,29 @@ stores_distinct core strand low (e ∷ es) (t ∷ ts) a = (
   λ h. (let n = out_numbers core strand es ts (store_request core strand e t) h in let b = ascends_above (suc e.item) (numbers_of es) e.item a.1 n in omega (arith, b)),
   stores_distinct core strand (suc e.item) es ts a.1,
 )
+
+-- the entry of a store that is out, which was sent well at its time
+pub record IsOutStore (core strand : ℕ) (items : List Item) (clock : ℕ) (es : List Entry) (r : RequestData) : Type 0 where
+  pub entry : Entry
+  pub among : IsIn entry es
+  pub is : r ≡ store_request core strand entry r.seen
+  pub well : IsSentWell (one_destination T1) items clock entry.item r.seen
+
+pub out_store : (core strand : ℕ) (items : List Item) (clock : ℕ) (es : List Entry) (ts : List ℕ) (r : RequestData) → AreSentWell (one_destination T1) items clock (numbers_of es) ts
+    → IsIn r (stores_out core strand es ts) → IsOutStore core strand items clock es r
+out_store core strand items clock [] ts r well h = absurd h
+out_store core strand items clock (e ∷ es) [] r well h = absurd h
+out_store core strand items clock (e ∷ es) (t ∷ ts) r well (inl same) =
+    let seen : t ≡ r.seen = ap (λ (q : RequestData). q.seen) (sym same) in
+    record {
+      entry = e;
+      among = inl refl;
+      is = same ∙ ap (λ (v : ℕ). store_request core strand e v) seen;
+      well = subst (λ (v : ℕ). IsSentWell (one_destination T1) items clock e.item v) seen well.0;
+    }
+out_store core strand items clock (e ∷ es) (t ∷ ts) r well (inr h) =
+    let o = out_store core strand items clock es ts r well.1 h in
+    record { entry = o.entry; among = inr o.among; is = o.is; well = o.well }
 
 -- ---- `seen` along one destination
 

@@ -14,7 +14,7 @@ use Rattle.t1_joint.specs.Lists.{IsIn}
 use Rattle.t1_joint.specs.Start.{Setup}
 use Rattle.t1_joint.specs.Proper.{AreProper}
 use Rattle.t1_joint.specs.Waits.{HasItem}
-use Rattle.t1_strand_order.specs.Laws.{one_at_a_time}
+use Rattle.t1_strand_order.specs.Laws.{one_destination}
 use Rattle.t1_strand_order.proofs.Items.{has_below}
 use Rattle.t1_strand_order.proofs.Events.{kept_begun}
 use Rattle.t1_received.specs.Requests.{sent_to}
@@ -56,7 +56,7 @@ no_item i x h = let l = has_below [] i x h in omega (arith, l)
 first_fits : (core s ram budget : ℕ) (from : Strand) → IsFittingThread core ram 0 budget [] s (first_thread from budget)
 first_fits core s ram budget from = record {
   budget_is = refl;
-  kept = kept_begun one_at_a_time 0;
+  kept = kept_begun (one_destination T1) 0;
   right = record { items = λ j x h. absurd (no_item j x h); out = tt };
   entries = tt;
   times = λ k x h. absurd (no_item k x h);

@@ -5,6 +5,7 @@ pub mod Moves
 pub mod Asks
 pub mod Execs
 pub mod Needs
+pub mod Nexts
 pub mod Drains
 pub mod Lists
 pub mod Steadies

@@ -24,7 +24,7 @@ use Rattle.t1_strand_order.specs.Tracks.{Track, Event, after}
 use Rattle.t1_strand_order.specs.Allowed.{IsAllowed}
 use Rattle.t1_strand_order.specs.Kept.{IsKept}
 use Rattle.t1_strand_order.specs.Places.{IsPlacedNow}
-use Rattle.t1_strand_order.specs.Laws.{one_at_a_time}
+use Rattle.t1_strand_order.specs.Laws.{one_destination}
 use Rattle.t1_strand_order.proofs.Items.{push_has}
 use Rattle.t1_received.specs.Requests.{is_of, of_class, GoTo}
 use Rattle.t1_received.proofs.Sorts.{class_of, class_one, class_none}
@@ -44,7 +44,7 @@ after_if s (Some event) = after s event
 
 abbrev pub IsAllowedIf : Track → Option Event → Type 0
 IsAllowedIf s None = Unit {0}
-IsAllowedIf s (Some event) = IsAllowed one_at_a_time s event
+IsAllowedIf s (Some event) = IsAllowed (one_destination T1) s event
 
 abbrev pub IsPlacedIf : ℕ → Caches → Track → Option Event → Type 0
 IsPlacedIf ram caches s None = Unit {0}
@@ -75,7 +75,7 @@ pub record IsReady (x : Asker) (icache dcache : CacheState) (caches : Caches) (p
   pub dcache_is : dcache ≡ cache_with Dcache (caches x.time Dcache) (pointers Dcache)
   pub icache_bytes : AreByteLines (caches x.time Icache)
   pub dcache_bytes : AreByteLines (caches x.time Dcache)
-  pub kept : IsKept one_at_a_time (track_of x.ram x.time t)
+  pub kept : IsKept (one_destination T1) (track_of x.ram x.time t)
   pub entries : AreEntriesOf t.items t.stores
 
 pub record IsRight (x : Asker) (caches : Caches) (pointers : Cache → List ℕ) (t u : ThreadState) (new : List RequestData) (event : Option Event) : Type 0 where

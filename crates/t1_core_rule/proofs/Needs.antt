@@ -15,6 +15,7 @@ use Rattle.t1_exec.specs.Needs.{need_of}
 use Rattle.t1_exec.specs.Meanings.{after_of}
 use Rattle.t1_packet.specs.declared.cache.Cache.{Cache}
 use Rattle.t1_packet.specs.declared.cache.Cache.TheVariants.{Dcache, Icache}
+use Rattle.t1_packet.specs.Ops.{dest_of}
 use Rattle.t1_sbuf.specs.declared.entry.Entry.{Entry}
 use Rattle.t1_sbuf.specs.Looks.{look_of}
 use Rattle.t1_l1.specs.Cache.{CacheState}
@@ -27,7 +28,7 @@ use Rattle.t1_joint.specs.Replay.{is_fetchable}
 use Rattle.t1_joint.specs.Rows.{Caches, NoneHeldIn}
 use Rattle.t1_joint.proofs.Needs.{IsShapedNeed}
 use Rattle.t1_strand_order.specs.Tracks.{Fence}
-use Rattle.t1_strand_order.specs.Laws.{one_at_a_time}
+use Rattle.t1_strand_order.specs.Laws.{one_destination}
 use Rattle.t1_strand_order.specs.Places.{AskedRow}
 use Rattle.t1_strand_order.proofs.Items.{not_true}
 use Rattle.t1_core.specs.declared.asker.Asker.{Asker}
@@ -81,7 +82,7 @@ module _ (x : Asker) (blocks : x.ram % 65536 ≡ 0) (icache dcache : CacheState)
       ]
 
   none_are_held : (word : ℕ) → es ≡ [] → Ready (phase.Have word) → NoneHeldIn xs (length xs) x.time
-  none_are_held word none r = none_held one_at_a_time xs es x.time r.kept.orderly none
+  none_are_held word none r = none_held (one_destination T1) xs es x.time r.kept.orderly none
 
   need_move : (word : ℕ) (n : Need) → need_of s (insn_of word) x.ram ≡ n → Move (phase.Have word) (exec_plan x dcache (at_phase (phase.Have word)) (plan_of es n))
   unfolding unit_done halted
@@ -102,10 +103,10 @@ module _ (x : Asker) (blocks : x.ram % 65536 ≡ 0) (icache dcache : CacheState)
       execs.empty_move x blocks icache dcache ic dc caches pointers s es ts xs budget word es plan.Flush (λ none. fence_move word flush_item (inr refl) (λ b. none) refl)
   need_move word (need.Store a z v) e =
       let f : IsShapedNeed x.ram (need.Store a z v) = subst (λ (n : Need). IsShapedNeed x.ram n) e (execs.need_fine x blocks icache dcache ic dc caches pointers s es ts xs budget word) in
-      let good : IsGoodEntry x.ram (record { item = length xs; addr = a; size = z; value = v; sent = false }) = (
-        record { size_is = f.0.size_is; aligned = f.0.aligned },
-        elim f.1 [ inl l ↦ inl (below x.ram a z f.0.size_is l) | inr io ↦ inr io ],
-      ) in
+      let good : IsGoodEntry x.ram (record { item = length xs; addr = a; size = z; value = v; sent = false; dest = dest_of T1 a }) = record {
+        asked = (record { size_is = f.0.size_is; aligned = f.0.aligned }, elim f.1 [ inl l ↦ inl (below x.ram a z f.0.size_is l) | inr io ↦ inr io ]);
+        dest = refl;
+      } in
       elim (cases_Bool (nat_lt (length es) 8)) [
         | inl g ↦ rw g (execs.stored_move x blocks icache dcache ic dc caches pointers s es ts xs budget word a z v good (ltb-true (length es) 8 g))
         | inr g ↦ rw g (execs.stays x blocks icache dcache ic dc caches pointers s es ts xs budget (phase.Have word) wait.Full)

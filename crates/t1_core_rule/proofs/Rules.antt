@@ -11,7 +11,7 @@ use Rattle.t1_exec.specs.declared.need.AtomicOp.TheVariants.{Swap, Cas}
 use Rattle.t1_exec.specs.Needs.{need_of}
 use Rattle.t1_packet.specs.declared.op.Op.TheVariants as op
 use Rattle.t1_packet.specs.Data.{RequestData}
-use Rattle.t1_packet.specs.Ops.{op_dest, is_store}
+use Rattle.t1_packet.specs.Ops.{dest_of, op_dest, is_store}
 use Rattle.t1_elf.specs.declared.object.Image.{Image}
 use Rattle.t1_event.specs.declared.report.Config.{Config}
 use Rattle.t1_event.specs.declared.item.Item.{Item}
@@ -25,11 +25,12 @@ use Rattle.t1_joint.specs.Lists.{IsIn, AreDistinct}
 use Rattle.t1_joint.specs.Start.{Setup}
 use Rattle.t1_joint.specs.Parts.{Standing, Fetching, Has, Out, Ended, CorePart, strand_items, answered, unanswered}
 use Rattle.t1_joint.specs.Proper.{l1_by}
-use Rattle.t1_joint.specs.Waits.{HasItem, IsDoneBy, WaitsFor}
+use Rattle.t1_joint.specs.Waits.{HasItem, IsDoneBy, WaitsFor, LetsSend}
 use Rattle.t1_joint.specs.Rows.{FewAreHeldIn, RowIn}
 use Rattle.t1_joint.specs.Replay.{Bounds}
 use Rattle.t1_joint.specs.Follows.{HasBegun}
 use Rattle.t1_joint.specs.CoreRule.{IsAwaiting, IsReplay, ending_at, IsTraceSoFar, IsOut, KeepsRule, IsCore}
+use Rattle.t1_strand_order.proofs.Stores.{stores_keep_order, sent_stores_keep_order}
 use Rattle.t1_received.specs.Requests.{sent_to}
 use Rattle.t1_received.proofs.Lists.{filter_in}
 use Rattle.t1_received.proofs.Sorts.{own_class, pending_out, out_pending}
@@ -40,12 +41,13 @@ use Rattle.t1_core.specs.Ends.{trace_of, ending_of}
 use Rattle.t1_core.specs.Replays.{IsReading, ReplaysAt, IsReplayed}
 use Rattle.t1_core.specs.Laws.{starts_of}
 use Rattle.t1_core_rule.specs.Histories.{History, Call}
-use Rattle.t1_core_rule.specs.Outs.{read_out, outs, outs_at}
+use Rattle.t1_core_rule.specs.Outs.{stores_out, read_out, outs, outs_at, track_of}
 use Rattle.t1_core_rule.specs.Parts.{standing_of, state_at, standing_at, waiting_at, sending_at, part_of}
 use Rattle.t1_core_rule.specs.Steady.{IsSteady}
 use Rattle.t1_core_rule.specs.Fitting.{IsFittingThread, IsFitting}
 use Rattle.t1_core_rule.specs.Laws.{CoresKeepTheirRule, AreWhole, history_of}
-use Rattle.t1_core_rule.proofs.Finds.{items_at, trace_at, stands, there, one_thread, drop_front, distinct_filter, distinct_classes, stored_numbers, stores_distinct, ascends_to}
+use Rattle.t1_core_rule.proofs.Finds.{items_at, trace_at, stands, there, one_thread, drop_front, distinct_filter, distinct_classes, stored_numbers, stores_distinct, out_store, ascends_to}
+use Rattle.t1_core_rule.proofs.Nexts.{entry_in}
 use Rattle.t1_core_rule.proofs.Walks.{requests_are_meant, traces_are_of_strands, history_steady}
 use Rattle.t1_core_rule.proofs.Fits.{history_fits}
 
@@ -216,6 +218,22 @@ module _ (config : Config) (image : Image) (core : ℕ) (h : History) where
         subst (λ (o : Option ThreadState). IsTraceSoFar (record { ram = ram; budget = config.budget }) (start i) (state_at o) trace (standing_at number i ram o)) (sym q.1)
         (subst (λ (x : Trace). IsTraceSoFar (record { ram = ram; budget = config.budget }) (start i) t.strand x (standing_of number i ram t.strand (length t.items) t.phase)) q.2 so_far)
 
+    -- a store that is out was sent when the earlier stores to other destinations were done
+    out_is_in_order : (i j : ℕ) (r : RequestData) (x : Item) → IsIn r (p.sending i) → j < r.item → HasItem (strand_items p i) j x → x.kind ≡ kind.Store
+        → LetsSend T1 (op_dest T1 r.op) r.seen x
+    out_is_in_order i j r x g lt g_x sx = (let q = stands threads i j x g_x in
+        by q.thread q.at q.has (subst (λ (o : Option ThreadState). IsIn r (sending_at number i o)) q.at g))
+      where
+        by : (t : ThreadState) → slice_get threads i ≡ Some t → HasItem t.items j x → IsIn r (stores_out number i t.stores t.times) → LetsSend T1 (op_dest T1 r.op) r.seen x
+        by t e has out =
+            let f_t = thread i t e in
+            let o = out_store number i t.items h.core.time t.stores t.times r f_t.kept.sent out in
+            let b = entry_in t.items t.stores o.entry f_t.entries o.among in
+            let below : j < o.entry.item = subst (λ (q : RequestData). j < q.item) o.is lt in
+            let lets : LetsSend T1 (dest_of T1 b.item.addr) r.seen x = sent_stores_keep_order T1 t.items h.core.time j o.entry.item r.seen x b.item o.well below has b.has sx in
+            let there : op_dest T1 r.op ≡ dest_of T1 b.item.addr = ap (λ (q : RequestData). op_dest T1 q.op) o.is ∙ ap (λ (a : ℕ). dest_of T1 a) (sym b.addr) in
+            subst (λ (d : ℕ). LetsSend T1 d r.seen x) (sym there) lets
+
     rule : KeepsRule w number p
     rule = record {
       placed = λ i k index seen x g how. (let q = stands threads i k x g in (thread i q.thread q.at).came k index seen x q.has how);
@@ -241,7 +259,8 @@ module _ (config : Config) (image : Image) (core : ℕ) (h : History) where
           (subst (λ (ys : List Item). WaitsFor ys j x.kind k y.kind) (items_at threads i q.thread q.at) waits));
       store_order = λ i j k x y lt g_x g_y sx sy placed. (let q = stands threads i j x g_x in let v = stands threads i k y g_y in
           let same : v.thread ≡ q.thread = one_thread threads i v.thread q.thread v.at q.at in
-          ((thread i q.thread q.at).kept.orderly.stores j k x y lt q.has (subst (λ (t : ThreadState). HasItem t.items k y) same v.has) sx sy placed).sent refl);
+          stores_keep_order T1 (track_of ram h.core.time q.thread) j k x y (thread i q.thread q.at).kept lt q.has (subst (λ (t : ThreadState). HasItem t.items k y) same v.has) sx sy placed);
+      out_order = out_is_in_order;
       rows = λ i k x g access. (let q = stands threads i k x g in
           let row : RowIn T1 ram (l1_by T1 number h.received) q.thread.items k x x.kind = (thread i q.thread q.at).right.items k x q.has access in
           subst (λ (n : ℕ). RowIn T1 n (l1_by T1 number h.received) (strand_items p i) k x x.kind) s.ram

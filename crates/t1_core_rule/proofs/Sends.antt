@@ -18,7 +18,7 @@ use Rattle.t1_joint.specs.Rows.{Caches}
 use Rattle.t1_strand_order.specs.Tracks.{Track, Event}
 use Rattle.t1_strand_order.specs.Kept.{IsKept}
 use Rattle.t1_strand_order.specs.Places.{ArePlacedRightly}
-use Rattle.t1_strand_order.specs.Laws.{one_at_a_time}
+use Rattle.t1_strand_order.specs.Laws.{one_destination}
 use Rattle.t1_strand_order.proofs.Histories.{events_keep_order, events_keep_places}
 use Rattle.t1_received.specs.Requests.{sent_to}
 use Rattle.t1_received.specs.Caches.{slots_by}
@@ -36,14 +36,14 @@ use Rattle.t1_core_rule.proofs.Moves.{after_if, IsAllowedIf, IsPlacedIf, IsReady
 use Rattle.t1_core_rule.proofs.Lists.{got_set, put_same, put_other, set_more}
 
 -- at most one event keeps the order and the places
-kept_if : (s : Track) (event : Option Event) → IsAllowedIf s event → IsKept one_at_a_time s → IsKept one_at_a_time (after_if s event)
+kept_if : (s : Track) (event : Option Event) → IsAllowedIf s event → IsKept (one_destination T1) s → IsKept (one_destination T1) (after_if s event)
 kept_if s None a k = k
-kept_if s (Some event) a k = events_keep_order one_at_a_time s event a k
+kept_if s (Some event) a k = events_keep_order (one_destination T1) s event a k
 
-right_if : (ram : ℕ) (caches : Caches) (s : Track) (event : Option Event) → IsAllowedIf s event → IsKept one_at_a_time s → IsPlacedIf ram caches s event
+right_if : (ram : ℕ) (caches : Caches) (s : Track) (event : Option Event) → IsAllowedIf s event → IsKept (one_destination T1) s → IsPlacedIf ram caches s event
     → ArePlacedRightly T1 ram caches s → ArePlacedRightly T1 ram caches (after_if s event)
 right_if ram caches s None a k row r = r
-right_if ram caches s (Some event) a k row r = events_keep_places T1 ram caches caches one_at_a_time s event a k (λ t l. refl) row r
+right_if ram caches s (Some event) a k row r = events_keep_places T1 ram caches caches (one_destination T1) s event a k (λ t l. refl) row r
 
 -- an item that a reply made stays, where placed items do
 pub made_by_moves : (threads : List ThreadState) (i : ℕ) (t u : ThreadState) (index : ℕ) (r : ReplyData) → slice_get threads i ≡ Some t
@@ -96,7 +96,7 @@ module _ (w : Setup) (core : ℕ) (h : History) (i room : ℕ) (t u : ThreadStat
         let before : Track = track_of h.core.ram h.core.time t in
         record {
           budget_is = budget ∙ g.budget_is;
-          kept = subst (λ (v : Track). IsKept one_at_a_time v) (sym m.is) (kept_if before m.event r.allowed g.kept);
+          kept = subst (λ (v : Track). IsKept (one_destination T1) v) (sym m.is) (kept_if before m.event r.allowed g.kept);
           right = subst (λ (v : Track). ArePlacedRightly T1 h.core.ram caches v) (sym m.is) (right_if h.core.ram caches before m.event r.allowed g.kept r.placed g.right);
           entries = r.entries;
           times = λ k y g_y.

@@ -22,7 +22,7 @@ use Rattle.t1_joint.specs.Waits.{HasItem}
 use Rattle.t1_joint.specs.CoreRule.{HasCome}
 use Rattle.t1_strand_order.specs.Kept.{IsKept}
 use Rattle.t1_strand_order.specs.Places.{ArePlacedRightly}
-use Rattle.t1_strand_order.specs.Laws.{one_at_a_time}
+use Rattle.t1_strand_order.specs.Laws.{one_destination}
 use Rattle.t1_received.specs.Requests.{sent_to, of_class, GoTo}
 use Rattle.t1_received.specs.Caches.{slots_by}
 use Rattle.t1_core.specs.Threads.{ThreadState}
@@ -45,7 +45,7 @@ pub record IsMadeBy (threads : List ThreadState) (index : ℕ) (reply : ReplyDat
 pub record IsFittingThread (number ram clock budget : ℕ) (received : List Packet) (strand : ℕ) (t : ThreadState) : Type 0 where
   pub budget_is : t.budget ≡ budget
   -- program order, times and places
-  pub kept : IsKept one_at_a_time (track_of ram clock t)
+  pub kept : IsKept (one_destination T1) (track_of ram clock t)
   pub right : ArePlacedRightly T1 ram (slots_by T1 number received) (track_of ram clock t)
   pub entries : AreEntriesOf t.items t.stores
   pub times : (k : ℕ) (x : Item) → HasItem t.items k x → IsTime received (at_of x.how)

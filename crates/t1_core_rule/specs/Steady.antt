@@ -1,26 +1,27 @@
 -- What a core keeps whatever packets come.
-use Rattle.std.specs.Prelude.{ℕ, ◌≡◌, ◌≤◌, ◌<◌, ◌⊎◌, List, [], ◌∷◌, length, Some}
+use Rattle.std.specs.Prelude.{ℕ, ◌≡◌, ◌≤◌, ◌<◌, List, [], ◌∷◌, length, Some}
 use Rattle.std.specs.List.{slice_get}
 use Rattle.t1_shape.specs.Shapes.Shape.{T1}
 use Rattle.t1_packet.specs.declared.cache.Cache.{Cache}
 use Rattle.t1_packet.specs.declared.cache.Cache.TheVariants.{Dcache, Icache}
 use Rattle.t1_packet.specs.Caches.{layout, width}
 use Rattle.t1_packet.specs.Data.{RequestData}
+use Rattle.t1_packet.specs.Ops.{op_dest}
 use Rattle.t1_sbuf.specs.declared.entry.Entry.{Entry}
 use Rattle.t1_l1.specs.Cache.{CacheState, ArePointers}
-use Rattle.t1_event.specs.Items.{IsIo}
 use Rattle.t1_joint.specs.Lists.{IsIn}
 use Rattle.t1_joint.specs.Start.{Setup}
 use Rattle.t1_joint.specs.Proper.{IsTime}
-use Rattle.t1_joint.specs.CoreRule.{IsSized, IsAsked, SeenAscends}
+use Rattle.t1_joint.specs.CoreRule.{IsAsked, SeenAscends}
 use Rattle.t1_received.specs.Laws.{ArePast}
 use Rattle.t1_core.specs.Threads.{ThreadState}
-use Rattle.t1_core.specs.Stores.{AreSent}
+use Rattle.t1_core.specs.Stores.{AreSent, store_op}
 use Rattle.t1_core_rule.specs.Histories.{History}
 
--- a store of the buffer: of a size that there is, aligned, in RAM or I/O space
-abbrev pub IsGoodEntry : ℕ → Entry → Type 0
-IsGoodEntry ram e = IsSized e.addr e.size × ((e.addr < ram) ⊎ IsIo e.addr)
+-- a store of the buffer: as a core may ask for it, with the number of its destination
+pub record IsGoodEntry (ram : ℕ) (e : Entry) : Type 0 where
+  pub asked : IsAsked T1 ram (store_op e)
+  pub dest : e.dest ≡ op_dest T1 (store_op e)
 
 abbrev pub AreGoodEntries : ℕ → List Entry → Type 0
 AreGoodEntries ram [] = Unit {0}

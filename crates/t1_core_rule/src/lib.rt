@@ -7,7 +7,7 @@
 //! last but two is the rule that parts of a run fit by.
 //!
 //! `proofs/Moves.antt` says what any step of a strand has to show, `proofs/Execs.antt`,
-//! `proofs/Needs.antt` and `proofs/Drains.antt` that the steps do; only `proofs/Drains.antt` knows
+//! `proofs/Needs.antt` and `proofs/Drains.antt` that the steps do; only `proofs/Nexts.antt` knows
 //! which store may be sent next.
 #![tactic(auto)]
 

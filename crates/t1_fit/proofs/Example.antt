@@ -152,6 +152,7 @@ core_kept = record {
   sent_times = sent_seen;
   order = λ s i j x y l hx hy p b. absurd (not_before s i j y hy l);
   store_order = λ s i j x y l hx hy a b p. absurd (not_before s i j y hy l);
+  out_order = λ s i r x h. absurd h;
   rows = λ s i x h access. core_row s i x h;
   few = λ s i x h r. record { numbers = []; few = omega arith; all = λ k store held. absurd (let t = the_item s i x h in let l = held.earlier in omega (arith, l, t.number)) };
   ways = core_ways;

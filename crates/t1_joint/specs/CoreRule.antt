@@ -29,7 +29,7 @@ use Rattle.t1_joint.specs.Follows.{StandsAt, HasBegun}
 use Rattle.t1_joint.specs.Start.{Setup, start_in, bounds_in}
 use Rattle.t1_joint.specs.Parts.{Standing, Fetching, Has, Out, Ended, CorePart, strand_items, unanswered}
 use Rattle.t1_joint.specs.Proper.{AreProper, IsTime, l1_by, victim_by}
-use Rattle.t1_joint.specs.Waits.{HasItem, IsInOrder, AreStoresInOrder}
+use Rattle.t1_joint.specs.Waits.{HasItem, IsInOrder, LetsSend, AreStoresInOrder}
 use Rattle.t1_joint.specs.Rows.{RowIn, FewAreHeldIn}
 
 -- ---- requests
@@ -145,6 +145,8 @@ pub record KeepsRule (w : Setup) (core : ℕ) (p : CorePart) : Type 0 where
   pub order : (s : ℕ) → IsInOrder (strand_items p s)
   pub store_order : (s i j : ℕ) (x y : Item) → i < j → HasItem (strand_items p s) i x → HasItem (strand_items p s) j y
       → x.kind ≡ kind.Store → y.kind ≡ kind.Store → IsPlaced y.how → AreStoresInOrder w.shape x y
+  pub out_order : (s i : ℕ) (r : RequestData) (x : Item) → IsIn r (p.sending s) → i < r.item → HasItem (strand_items p s) i x
+      → x.kind ≡ kind.Store → LetsSend w.shape (op_dest w.shape r.op) r.seen x
   -- places
   pub rows : (s i : ℕ) (x : Item) → HasItem (strand_items p s) i x → IsAccess x.kind
       → RowIn w.shape w.config.ram (l1_by w.shape core p.received) (strand_items p s) i x x.kind

@@ -2,6 +2,7 @@
 use Rattle.std.specs.Prelude.{ℕ, ◌≡◌, ◌<◌, ◌≤◌, ◌⊎◌, List, Some}
 use Rattle.std.specs.List.{slice_get}
 use Rattle.t1_shape.specs.Shapes.{Shape}
+use Rattle.t1_packet.specs.Ops.{dest_of}
 use Rattle.t1_event.specs.declared.item.Item.{Item}
 use Rattle.t1_event.specs.declared.item.ItemKind.{ItemKind}
 use Rattle.t1_event.specs.declared.item.ItemKind.TheVariants as kind
@@ -9,7 +10,7 @@ use Rattle.t1_event.specs.declared.item.How.{How}
 use Rattle.t1_event.specs.declared.item.How.TheVariants.{Unplaced, Forward, Hit, Commit}
 use Rattle.t1_event.specs.Kinds.{IsRead, IsWrite, IsAccess}
 use Rattle.t1_event.specs.Items.{IsBarrier}
-use Rattle.t1_event.specs.Times.{at_of, IsPlaced}
+use Rattle.t1_event.specs.Times.{at_of, index_of, IsPlaced}
 
 abbrev pub HasItem : List Item → ℕ → Item → Type 0
 HasItem items i x = slice_get items i ≡ Some x
@@ -51,9 +52,15 @@ IsInOrder items =
     (i j : ℕ) (x y : Item) → i < j → HasItem items i x → HasItem items j y → IsPlaced y.how → WaitsFor items i x.kind j y.kind
     → IsDoneBy (at_of y.how) x.how
 
--- two stores of a strand, the second of which has a place: the first was done when the second was sent
-abbrev pub AreStoresInOrder : Shape → Item → Item → Type 0
-AreStoresInOrder shape x y = IsDoneBy (at_of y.how) x.how
+-- an earlier store of the strand lets a store go out to a destination at t: it goes there too, or was done
+abbrev pub LetsSend : Shape → ℕ → ℕ → Item → Type 0
+LetsSend shape dest t x = (dest_of shape x.addr ≡ dest) ⊎ IsDoneBy t x.how
+
+-- two stores of a strand, the second of which has a place: the first has the lower index, and, where they
+-- go to two destinations, was done when the second was sent
+pub record AreStoresInOrder (shape : Shape) (x y : Item) : Type 0 where
+  pub index : IsDoneBy (index_of y.how) x.how
+  pub sent : LetsSend shape (dest_of shape y.addr) (at_of y.how) x
 
 -- a store that is held at an access at j of time t: an earlier one that comes at t or later
 pub record IsHeldIn (items : List Item) (j t i : ℕ) (store : Item) : Type 0 where

@@ -15,6 +15,8 @@ use Rattle.t1_exec.specs.declared.need.Need.TheVariants as need
 use Rattle.t1_exec.specs.declared.need.AtomicOp.TheVariants.{Swap, Cas}
 use Rattle.t1_exec.specs.Needs.{need_of}
 use Rattle.t1_exec.specs.Meanings.{after_of}
+use Rattle.t1_shape.specs.Shapes.Shape.{T1}
+use Rattle.t1_packet.specs.Ops.{dest_of}
 use Rattle.t1_sbuf.specs.declared.entry.Entry.{Entry}
 use Rattle.t1_sbuf.specs.Entries.{sent_next}
 use Rattle.t1_event.specs.declared.item.Item.{Item}
@@ -153,7 +155,7 @@ module _ (ram : ℕ) where
   unfolding stored unit_done
   stored_bare t addr size value b =
       let y : Item = store_item addr size value in
-      let e : Entry = record { item = length t.items; addr = addr; size = size; value = value; sent = false } in
+      let e : Entry = record { item = length t.items; addr = addr; size = size; value = value; sent = false; dest = dest_of T1 addr } in
       let s : Strand = after_of t.strand (insn_of (word_of t.phase)) 0 in
       record {
         items = more_items t.items y b.items (bare_access y refl);

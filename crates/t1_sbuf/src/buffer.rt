@@ -8,22 +8,24 @@ use crate::looks::look_at;
 use arrayvec::ArrayVec;
 use std::marker::Model;
 
-/// At most eight stores, seen as the list of their entries from the oldest.
+/// At most eight stores, seen as the list of their entries from the oldest. The cursor stands at the
+/// oldest one that is not sent.
 #[derive(Drop)]
 pub struct StoreBuffer {
     entries: ArrayVec<Entry, 8>,
+    cursor: u8,
 }
 
 impl Model for StoreBuffer {
-    ghost use Rattle.std.specs.Prelude.{List};
+    ghost use Rattle.std.specs.Prelude.{List, ◌≡◌};
     ghost use Rattle.t1_sbuf.specs.declared.entry.Entry.{Entry};
-    ghost use Rattle.t1_sbuf.specs.Entries.{AreEntries};
+    ghost use Rattle.t1_sbuf.specs.Entries.{AreEntries, next_place};
 
     ghost Value = { List Entry };
 
     ghost view = { λ b. b.entries.items };
 
-    ghost invariant = { λ b. AreEntries b.entries.items };
+    ghost invariant = { λ b. AreEntries b.entries.items × (b.cursor ≡ next_place b.entries.items) };
 }
 
 impl StoreBuffer {
@@ -36,6 +38,7 @@ impl StoreBuffer {
     {
         StoreBuffer {
             entries: ArrayVec::new(),
+            cursor: 0,
         }
     }
 
@@ -91,30 +94,33 @@ impl StoreBuffer {
         }
     }
 
-    /// The store that may be sent next; none exactly where every store is sent or one is out, that
-    /// is sent and not acknowledged.
+    /// The store that may be sent next: the oldest that is not sent. None exactly where every store
+    /// is sent, or one that is sent goes to another destination.
     #[inline]
-    #[tactic(auto, using(crate::proofs::Sent::next_of_unsent, crate::proofs::Sent::next_of_sent, crate::proofs::Sent::next_of_none))]
     pub fn next_to_send(&self) -> Option<Entry>
         ensures { result ≡ next_to_send_of self.now }
     {
-        match self.entries.as_slice().first() {
-            None => None,
-            Some(entry) => { if entry.sent { None } else { Some(*entry) } }
+        let entries = self.entries.as_slice();
+        let next = entries.get(self.cursor as usize)?;
+        if self.cursor > 0 && entries[0].dest != next.dest {
+            None
+        } else {
+            Some(*next)
         }
     }
 
     /// Marks the store that may be sent next as sent.
-    #[tactic(auto, using(crate::proofs::Sent::entries_sent, crate::proofs::Sent::oldest_unsent))]
     pub fn sent(&mut self)
         requires { IsSome (next_to_send_of self.old) }
         ensures marked { self.new ≡ sent_next self.old }
         ensures oldest { IsOldestSent self.new }
+        ensures few { length self.new ≤ 8 }
     {
-        let Some(oldest) = self.entries.get_mut(0) else {
+        let Some(next) = self.entries.get_mut(self.cursor as usize) else {
             return;
         };
-        oldest.sent = true;
+        next.sent = true;
+        self.cursor += 1;
     }
 
     /// Takes out the oldest store, which is acknowledged.
@@ -122,6 +128,7 @@ impl StoreBuffer {
         requires { IsOldestSent self.old }
         ensures { self.old ≡ result ∷ self.new }
     {
+        self.cursor -= 1;
         self.entries.remove(0)
     }
 }

@@ -1,7 +1,8 @@
 //! The entries of a store buffer, and what a look at it answers.
 
 /// A store: the number of its item in the strand's trace, its address, its size (1, 2, 4 or 8
-/// bytes), its value as a big-endian number, and whether it was sent to its destination.
+/// bytes), its value as a big-endian number, whether it was sent, and the number of its destination,
+/// which the buffer only compares.
 #[derive(Clone, Copy, Debug, PartialEq, Eq, Default)]
 pub struct Entry {
     pub item: u32,
@@ -9,6 +10,7 @@ pub struct Entry {
     pub size: u8,
     pub value: u64,
     pub sent: bool,
+    pub dest: u8,
 }
 
 /// What a buffer says of a load.

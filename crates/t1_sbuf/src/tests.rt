@@ -6,6 +6,7 @@ ghost use Rattle.t1_sbuf.specs.Entries.{IsStore};
 use crate::{Entry, Look, StoreBuffer};
 use std::process::Abort;
 
+/// A store to destination 2.
 fn store(item: u32, addr: u64, size: u8, value: u64) -> Entry
     requires size { IsSize size }
     requires aligned { IsAligned addr size }
@@ -19,11 +20,19 @@ fn store(item: u32, addr: u64, size: u8, value: u64) -> Entry
         size,
         value,
         sent: false,
+        dest: 2,
+    }
+}
+
+fn marked(entry: Entry) -> Entry {
+    Entry {
+        sent: true,
+        ..entry
     }
 }
 
 #[test]
-fn a_buffer_is_a_queue_of_eight(rt: HostRuntime) {
+fn a_buffer_is_a_queue(rt: HostRuntime) {
     let mut buffer = StoreBuffer::new();
     assert!(rt; buffer.is_empty());
     assert_eq!(rt; buffer.next_to_send(), None);
@@ -35,23 +44,44 @@ fn a_buffer_is_a_queue_of_eight(rt: HostRuntime) {
     assert_eq!(rt; buffer.oldest(), Some(first));
     assert_eq!(rt; buffer.next_to_send(), Some(first));
     buffer.sent();
-    assert_eq!(rt; buffer.next_to_send(), None, "one is out");
     assert_eq!(rt;
-        buffer.ack(),
-        Entry {
-            sent: true,
-            ..first
-        }
+        buffer.next_to_send(),
+        Some(second),
+        "the second goes where the first went"
     );
-    assert_eq!(rt; buffer.next_to_send(), Some(second));
+    buffer.sent();
+    assert_eq!(rt; buffer.next_to_send(), None, "both are out");
+    assert_eq!(rt; buffer.ack(), marked(first));
+    assert_eq!(rt; buffer.next_to_send(), None);
+    assert_eq!(rt; buffer.ack(), marked(second));
+    assert!(rt; buffer.is_empty());
+}
+
+#[test]
+fn a_store_to_another_destination_waits(rt: HostRuntime) {
+    let mut buffer = StoreBuffer::new();
+    let first = store(0, 0x200, 8, 1);
+    let second = store(1, 0x208, 8, 2);
+    let other = Entry {
+        dest: 3,
+        ..store(2, 0x240, 8, 3)
+    };
+    buffer.push(first);
+    buffer.push(second);
+    buffer.push(other);
+    buffer.sent();
     buffer.sent();
     assert_eq!(rt;
-        buffer.ack(),
-        Entry {
-            sent: true,
-            ..second
-        }
+        buffer.next_to_send(),
+        None,
+        "two are out to another destination"
     );
+    assert_eq!(rt; buffer.ack(), marked(first));
+    assert_eq!(rt; buffer.next_to_send(), None, "one still is");
+    assert_eq!(rt; buffer.ack(), marked(second));
+    assert_eq!(rt; buffer.next_to_send(), Some(other));
+    buffer.sent();
+    assert_eq!(rt; buffer.ack(), marked(other));
     assert!(rt; buffer.is_empty());
 }
 

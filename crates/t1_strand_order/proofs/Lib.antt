@@ -5,4 +5,5 @@ pub mod Events
 pub mod Acks
 pub mod Rows
 pub mod Histories
+pub mod Stores
 pub mod Example

@@ -1,23 +1,20 @@
 -- The laws of a strand's order.
-use Rattle.std.specs.Prelude.{ℕ, ◌≡◌, ◌<◌, not, ◌==◌, Bool, true, List}
+use Rattle.std.specs.Prelude.{ℕ, ◌≡◌, ◌<◌, not, ◌==◌, Bool, List}
 use Rattle.t1_shape.specs.Shapes.{Shape}
+use Rattle.t1_shape.specs.Shapes.Shape.{T1}
 use Rattle.t1_packet.specs.Ops.{dest_of}
 use Rattle.t1_event.specs.declared.item.Item.{Item}
 use Rattle.t1_event.specs.declared.item.ItemKind.TheVariants as kind
 use Rattle.t1_event.specs.Times.{IsPlaced}
-use Rattle.t1_joint.specs.Waits.{HasItem, AreStoresInOrder}
+use Rattle.t1_joint.specs.Waits.{HasItem, LetsSend, AreStoresInOrder}
 use Rattle.t1_joint.specs.Rows.{Caches}
 use Rattle.t1_strand_order.specs.Tracks.{Track, Event, begun, after, after_all}
 use Rattle.t1_strand_order.specs.Allowed.{IsAllowed, AreAllowed}
-use Rattle.t1_strand_order.specs.Kept.{IsKept}
-use Rattle.t1_strand_order.specs.Example.{example}
+use Rattle.t1_strand_order.specs.Kept.{IsSentWell, IsKept}
+use Rattle.t1_strand_order.specs.Example.{example, two_stores}
 use Rattle.t1_strand_order.specs.Places.{IsPlacedNow, ArePlacedRightly, AreUpTo}
 
 -- ---- which stores of a strand may not be out at once
-
--- no two
-abbrev pub one_at_a_time : ℕ → ℕ → Bool
-one_at_a_time a b = true
 
 -- those that go to two destinations
 abbrev pub one_destination : Shape → ℕ → ℕ → Bool
@@ -34,11 +31,18 @@ abbrev pub HistoriesKeepOrder : Type 0
 HistoriesKeepOrder =
     (apart : ℕ → ℕ → Bool) (clock : ℕ) (events : List Event) → AreAllowed apart (begun clock) events → IsKept apart (after_all (begun clock) events)
 
--- one store at a time: a store that has a place was sent when the earlier stores were done
+-- where what is out goes to one destination: of two stores the later has the higher index, and, where they
+-- go to two, was sent when the earlier was done
 abbrev pub StoresKeepOrder : Type 0
 StoresKeepOrder =
-    (shape : Shape) (s : Track) (i j : ℕ) (x y : Item) → IsKept one_at_a_time s → i < j → HasItem s.items i x → HasItem s.items j y
+    (shape : Shape) (s : Track) (i j : ℕ) (x y : Item) → IsKept (one_destination shape) s → i < j → HasItem s.items i x → HasItem s.items j y
     → x.kind ≡ kind.Store → y.kind ≡ kind.Store → IsPlaced y.how → AreStoresInOrder shape x y
+
+-- so was one that is out
+abbrev pub SentStoresKeepOrder : Type 0
+SentStoresKeepOrder =
+    (shape : Shape) (items : List Item) (clock i j t : ℕ) (x y : Item) → IsSentWell (one_destination shape) items clock j t → i < j → HasItem items i x
+    → HasItem items j y → x.kind ≡ kind.Store → LetsSend shape (dest_of shape y.addr) t x
 
 -- accesses that are placed rightly stay so: later events change no store that they may look at, nor the
 -- caches of their times
@@ -48,6 +52,6 @@ EventsKeepPlaces =
     → IsAllowed apart s event → IsKept apart s → AreUpTo s.clock caches later → IsPlacedNow shape ram later s event
     → ArePlacedRightly shape ram caches s → ArePlacedRightly shape ram later (after s event)
 
--- there are such histories, whichever stores may not be out at once
+-- there are such histories: one whichever stores may not be out at once, and one with two stores out
 abbrev pub HistoriesAre : Type 0
-HistoriesAre = (apart : ℕ → ℕ → Bool) → AreAllowed apart (begun 0) example
+HistoriesAre = ((apart : ℕ → ℕ → Bool) → AreAllowed apart (begun 0) example) × AreAllowed (one_destination T1) (begun 0) two_stores

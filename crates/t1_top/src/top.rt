@@ -4,6 +4,7 @@ ghost use Rattle.t1_io.specs.Causes.{Rose};
 ghost use Rattle.t1_cli.specs.Serial.{HasNoText};
 ghost use Rattle.t1_cli.specs.Verdict.{Tells};
 ghost use Rattle.t1_cli.specs.Words.{command_of, is_in_limits};
+ghost use Rattle.t1_top.specs.Headline.{ClaimsCommand};
 ghost use Rattle.t1_top.specs.Top.{live_of, AnswersCommand, ReadsNoInput, ServesCommand};
 
 use crate::live::serve_live;
@@ -47,6 +48,7 @@ pub fn t1_top<R: Threads + Wait + Sync, S: Source, K: Sink, E: Sink, G: Gate + S
 ) -> Status
     // When each status comes.
     ensures usage { (result ≡ Status.Usage) ↔ (command_of (map string_bytes words.now) ≡ None) }
+    ensures headline { ClaimsCommand (command_of (map string_bytes words.now)) (S.left input.old) (K.held out.old) (K.held out.new) result }
     ensures answers { AnswersCommand (command_of (map string_bytes words.now)) (S.left input.old) (S.left input.new) (K.held out.old) (K.held out.new) result }
     ensures read_fault { result ≡ Status.ReadFault → Rose (S.faults input.old) (S.faults input.new) }
     ensures write_fault { result ≡ Status.WriteFault → Rose (K.faults out.old) (K.faults out.new) }

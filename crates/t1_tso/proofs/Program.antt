@@ -7,11 +7,11 @@ use Rattle.t1_event.specs.declared.item.How.TheVariants as how
 use Rattle.t1_event.specs.declared.report.Place.{Place}
 use Rattle.t1_event.specs.Kinds.{IsWrite, IsAccess}
 use Rattle.t1_event.specs.Order.{Act, Earlier, LoadOp, StoreStore, Barrier}
-use Rattle.t1_event.specs.Times.{at_of, done_of, IsPlaced, IsCommit}
+use Rattle.t1_event.specs.Times.{at_of, done_of, index_of, IsPlaced, IsCommit}
 use Rattle.t1_event.specs.Keys.{major, IsKeyBelow, IsOrderByKeys}
 use Rattle.t1_event.specs.Places.{Run, FetchPlaced, LoadPlaced, AtomicPlaced, Row}
 use Rattle.t1_joint.specs.Waits.{IsDoneBy}
-use Rattle.t1_tso.proofs.Joint.{Joint, read_access, write_access, write_cases, store_access}
+use Rattle.t1_tso.proofs.Joint.{Joint, read_access, write_access, write_cases}
 use Rattle.t1_tso.proofs.Order.{SeenBeforeIndex, key_from_done, before_from_key}
 
 commit_placed : (w : How) → IsCommit w → IsPlaced w
@@ -68,24 +68,24 @@ module _ (h : Run) (j : Joint h) where
       before_from_key order o x y ax ay (key_from_done x y e (seen_before x ax) (seen_before y ay) (j.program.read x y e rx ay))
 
   -- of two stores the later has the higher index
-  done_index : (k l : How) → IsDoneBy (at_of l) k → SeenBeforeIndex l → major k < major l ⊎ (major k ≡ major l)
-  done_index how.Unplaced l d s = absurd d
-  done_index (how.Forward t) how.Unplaced d s = absurd s
-  done_index (how.Forward t) (how.Forward u) d s = grind arith
-  done_index (how.Forward t) (how.Hit u) d s = grind arith
-  done_index (how.Forward t) (how.Commit n u) d s = grind arith
-  done_index (how.Hit t) how.Unplaced d s = absurd s
-  done_index (how.Hit t) (how.Forward u) d s = grind arith
-  done_index (how.Hit t) (how.Hit u) d s = grind arith
-  done_index (how.Hit t) (how.Commit n u) d s = grind arith
-  done_index (how.Commit m r) how.Unplaced d s = absurd s
-  done_index (how.Commit m r) (how.Forward u) d s = grind arith
-  done_index (how.Commit m r) (how.Hit u) d s = grind arith
-  done_index (how.Commit m r) (how.Commit n u) d s = grind arith
+  index_key : (k l : How) → IsDoneBy (index_of l) k → major k < major l ⊎ (major k ≡ major l)
+  index_key how.Unplaced l d = absurd d
+  index_key (how.Forward t) how.Unplaced d = grind arith
+  index_key (how.Forward t) (how.Forward u) d = grind arith
+  index_key (how.Forward t) (how.Hit u) d = grind arith
+  index_key (how.Forward t) (how.Commit n u) d = grind arith
+  index_key (how.Hit t) how.Unplaced d = grind arith
+  index_key (how.Hit t) (how.Forward u) d = grind arith
+  index_key (how.Hit t) (how.Hit u) d = grind arith
+  index_key (how.Hit t) (how.Commit n u) d = grind arith
+  index_key (how.Commit m r) how.Unplaced d = grind arith
+  index_key (how.Commit m r) (how.Forward u) d = grind arith
+  index_key (how.Commit m r) (how.Hit u) d = grind arith
+  index_key (how.Commit m r) (how.Commit n u) d = grind arith
 
   store_key : (x y : Act h.traces) → Earlier x y → x.item.kind ≡ kind.Store → y.item.kind ≡ kind.Store → IsKeyBelow x y
   store_key x y e sx sy =
-      elim (done_index x.item.how y.item.how (j.program.stores x y e sx sy) (seen_before y (store_access y.item.kind sy))) [
+      elim (index_key x.item.how y.item.how (j.program.stores x y e sx sy).index) [
         | inl l ↦ inl l
         | inr q ↦ inr (q, inr (e.strand, e.number))
       ]

@@ -1,5 +1,5 @@
--- Where a store may be sent none is, so its time is the first.
-use Rattle.std.proofs.Common.{◌≡◌, ◌<◌, ℕ, List, [], ◌∷◌, ◌++◌, length, sym, subst, arith, lit<}
+-- A store that is sent has a time, and each of at most eight stores has one at most.
+use Rattle.std.proofs.Common.{◌<◌, ◌≤◌, ℕ, List, [], ◌∷◌, ◌++◌, length, sym, subst, lit<}
 use Rattle.std.specs.Prelude.{IsSome}
 use Rattle.t1_sbuf.specs.declared.entry.Entry.{Entry}
 use Rattle.t1_sbuf.specs.Entries.{next_to_send_of, sent_next}
@@ -12,8 +12,8 @@ pub push-requires : goal.push-requires
 push-requires c =
     let i = c.self.inside in
     let some : IsSome (next_to_send_of i.stores) = subst (λ (t : ThreadState). IsSome (next_to_send_of t.stores)) (sym c.self.view_is) c.requires in
-    let none : length i.times.items ≡ 0 = room_for_time i.stores i.times.items c.self.invariant.2 some in
-    let low : length i.times.items < 8 = omega (arith, none) in
+    let few : length (sent_next i.stores) ≤ 8 = subst (λ (es : List Entry). length es ≤ 8) c.sent.ensures.marked c.sent.ensures.few in
+    let low : length i.times.items < 8 = room_for_time i.stores i.times.items c.self.invariant.2 some few in
     (lit< tt, low)
 
 pub invariant_of-self : goal.invariant_of-self

@@ -1,5 +1,5 @@
 -- The store that enters is not sent.
-use Rattle.std.proofs.Common.{◌≡◌, List, refl, sym, subst}
+use Rattle.std.proofs.Common.{List, refl, sym, subst}
 use Rattle.t1_sbuf.specs.declared.entry.Entry.{Entry}
 use Rattle.t1_core.specs.Stores.{AreSent}
 use Rattle.t1_core.proofs.Sends.{sent_push}
