@@ -1,5 +1,5 @@
 -- What the command check makes of a log: a line that tells its verdict.
-use Rattle.std.specs.Prelude.{ℕ, ◌≡◌, ◌<◌, List, ◌++◌, length, codes, decimal, Option, Some, None, ⊤}
+use Rattle.std.specs.Prelude.{ℕ, ◌≡◌, ◌<◌, List, ◌++◌, length, codes, decimal, Option, Some, None}
 use Rattle.t1_event.specs.declared.report.Place.{Place}
 use Rattle.t1_event.specs.declared.report.Report.{Report}
 use Rattle.t1_check.specs.declared.verdict.Axiom.{Axiom}
@@ -8,6 +8,7 @@ use Rattle.t1_check.specs.declared.verdict.Verdict.{Verdict}
 use Rattle.t1_check.specs.declared.verdict.Verdict.TheVariants.{Holds, Broken}
 use Rattle.t1_log.specs.Log.{text_of}
 use Rattle.t1_read.specs.WellFormed.{IsWellFormed}
+use Rattle.t1_read.specs.Exact.{HasBytes}
 use Rattle.t1_cli.specs.declared.refusal.Refusal.{Refusal}
 use Rattle.t1_cli.specs.declared.refusal.Refusal.TheVariants.{TooLong, NoLog}
 use Rattle.t1_cli.specs.Runs.{most_input}
@@ -19,10 +20,14 @@ pub record IsLogOf (input : List ℕ) (report : Report) : Type 0 where
   pub well_formed : IsWellFormed report
   pub text : input ≡ text_of report
 
+-- no well-formed report, whose memory and console hold bytes, has this text
+abbrev pub HasNoReport : List ℕ → Type 0
+HasNoReport input = (report : Report) → IsLogOf input report → HasBytes report → ⊥
+
 -- why an input is no log
 abbrev pub IsNoLog : List ℕ → Refusal → Type 0
 IsNoLog input TooLong = most_input < length input
-IsNoLog input (NoLog line kind) = ⊤
+IsNoLog input (NoLog line kind) = HasNoReport input
 IsNoLog input _ = ⊥
 
 -- ---- verdicts

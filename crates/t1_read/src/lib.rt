@@ -1,9 +1,10 @@
 //! The reader of logs.
 //!
 //! [`read_log`] reads the text that `t1_log::print` writes. The report that it answers is well formed,
-//! and the text is its log; for another text it answers the first line at fault and its kind. The text
-//! is read once, line by line, in the order in which it is printed: the machine, the image, the strands,
-//! the commits, the memory order, the console.
+//! and the text is its log; the log of a well-formed report reads as that report (`specs/Exact.antt`);
+//! for another text it answers the first line at fault and its kind. The text is read once, line by
+//! line, in the order in which it is printed: the machine, the image, the strands, the commits, the
+//! memory order, the console.
 //!
 //! ```text
 //! let report = read_log(alloc, text)?;

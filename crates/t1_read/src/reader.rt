@@ -274,11 +274,12 @@ fn read_end(lines: &mut Lines, text: &[u8]) -> Result<(), LogError>
 
 /// Reads a log, in one pass over the text. The report is well formed, and the text is its log: what the
 /// log does not print of a commit, its op, its time and its old value, is filled from the item that it
-/// names.
+/// names. The log of a well-formed report reads as that report.
 ///
 /// # Errors
 ///
-/// [`LogError`]: the first line at fault, and what is at fault with it, or want of memory.
+/// [`LogError`]: the first line at fault, and what is at fault with it, or want of memory. The text is no
+/// log of a well-formed report, unless memory was wanting.
 pub fn read_log(alloc: Global, text: &[u8]) -> Result<Report, LogError>
     requires { length text.now ≤ 67108864 }
     ensures formed { IfOk result IsWellFormed }
