@@ -44,7 +44,7 @@ report_claims config reports claimed text left left' old new status.NotInOrder c
 
 in_order : (run : Run) (w : Setup) (report : Report) → by_schedule run w report → IsInOrder w report
 in_order run w report r = subst (λ v. IsInOrder w v) (sym r.is)
-    (record { config = refl; image = refl; lists = r.obeys.listing; obeys = r.obeys.tso; follows = r.ends.history.table })
+    (record { config = refl; image = refl; strands = r.ends.history.all_strands; lists = r.obeys.listing; obeys = r.obeys.tso; follows = r.ends.history.table })
 
 machine_is : (run : Run) (w : Setup) (report : Report) → by_schedule run w report → IsOfCoveredMachine w run.schedule report
 machine_is run w report r = record {

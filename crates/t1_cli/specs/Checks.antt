@@ -15,14 +15,15 @@ use Rattle.t1_cli.specs.Runs.{most_input}
 
 -- ---- logs
 
--- the text of a well-formed report
+-- the text of a well-formed report, whose memory and console hold bytes
 pub record IsLogOf (input : List ℕ) (report : Report) : Type 0 where
   pub well_formed : IsWellFormed report
+  pub bytes : HasBytes report
   pub text : input ≡ text_of report
 
--- no well-formed report, whose memory and console hold bytes, has this text
+-- no report has this text
 abbrev pub HasNoReport : List ℕ → Type 0
-HasNoReport input = (report : Report) → IsLogOf input report → HasBytes report → ⊥
+HasNoReport input = (report : Report) → IsLogOf input report → ⊥
 
 -- why an input is no log
 abbrev pub IsNoLog : List ℕ → Refusal → Type 0

@@ -1,6 +1,6 @@
 -- What the order of a printed report is worth: a list of each access that obeys total store order, of the machine that the words
 -- name.
-use Rattle.std.specs.Prelude.{ℕ, ◌≡◌, List, Option, Some, ⊤}
+use Rattle.std.specs.Prelude.{ℕ, ◌≡◌, ◌*◌, List, length, Option, Some, ⊤}
 use Rattle.t1_io.specs.Held.{Grew, GrewPart}
 use Rattle.t1_event.specs.declared.report.Config.{Config}
 use Rattle.t1_event.specs.declared.report.Report.{Report}
@@ -22,11 +22,12 @@ use Rattle.t1_cli.specs.declared.status.Status.TheVariants as status
 use Rattle.t1_cli.specs.Runs.{printed_of}
 use Rattle.t1_cli.specs.Serial.{PrintsReport}
 
--- the report of a machine has an order that lists each access once and obeys total store order over its own traces and image,
--- and its traces follow the instruction table
+-- the report of a machine has a trace for each strand, an order that lists each access once and obeys total store order over its
+-- own traces and image, and traces that follow the instruction table
 pub record IsInOrder (w : Setup) (report : Report) : Type 0 where
   pub config : report.config ≡ w.config
   pub image : report.image ≡ w.image
+  pub strands : length report.traces ≡ w.config.cores * w.config.strands
   pub lists : IsListing (items_of report.traces) report.order
   pub obeys : ObeysTso report.image.ram (items_of report.traces) report.order
   pub follows : Table w report.traces

@@ -1,16 +1,18 @@
 //! The command that judges the order of a log.
 ghost use Rattle.std.specs.Prelude.{◌≡◌, ◌≢◌, ◌+◌, ◌≤◌, ◌++◌, length};
 ghost use Rattle.t1_io.specs.Causes.{Rose};
+ghost use Rattle.t1_read.specs.Exact.{HasBytes};
 ghost use Rattle.t1_cli.specs.Checks.{axiom_name_of, spot_of, spot_or_dash, broken_line, checked_line};
 ghost use Rattle.t1_cli.specs.Serial.{HasNoText};
 ghost use Rattle.t1_cli.specs.Statuses.{status_of_verdict};
 ghost use Rattle.t1_cli.specs.Verdict.{told_of, Checked};
 
 use crate::refusal::Refusal;
+use crate::report::are_bytes;
 use crate::verdict::Verdict;
 use std::alloc::Global;
 use t1_check::{Axiom, Verdict as Judgement, check};
-use t1_event::Place;
+use t1_event::{Place, Report};
 use t1_io::{Sink, write_all};
 use t1_log::Line;
 use t1_read::{LogKind, read_log};
@@ -100,6 +102,14 @@ fn told(judgement: Judgement) -> Verdict
     }
 }
 
+/// The memory and the console of a report are stored in bytes.
+fn has_bytes(report: &Report)
+    ensures { HasBytes report.now }
+{
+    are_bytes(report.image.ram.as_slice());
+    are_bytes(report.console.as_slice());
+}
+
 /// Reads a log and writes the verdict on its order.
 pub(crate) fn write_verdict<K: Sink>(alloc: Global, text: Vec<u8>, out: &mut K) -> Verdict
     requires { length text.items ≤ 67108864 }
@@ -109,15 +119,18 @@ pub(crate) fn write_verdict<K: Sink>(alloc: Global, text: Vec<u8>, out: &mut K) 
     ensures never { result ≢ Verdict.ReadFault }
 {
     match read_log(alloc, text.as_slice()) {
-        Ok(report) => match check(alloc, &report) {
-            Ok(judgement) => {
-                if write_all(out, checked_line(judgement).as_slice()).is_err() {
-                    return Verdict::WriteFault;
+        Ok(report) => {
+            has_bytes(&report);
+            match check(alloc, &report) {
+                Ok(judgement) => {
+                    if write_all(out, checked_line(judgement).as_slice()).is_err() {
+                        return Verdict::WriteFault;
+                    }
+                    told(judgement)
                 }
-                told(judgement)
+                Err(_) => Verdict::OutOfMemory,
             }
-            Err(_) => Verdict::OutOfMemory,
-        },
+        }
         Err(error) => match error.kind {
             LogKind::OutOfMemory => Verdict::OutOfMemory,
             kind => Verdict::Refused(Refusal::NoLog {

@@ -22,7 +22,7 @@ use t1_log::{print, print_brief};
 use t1_machine::Schedule;
 
 /// What is stored in bytes is below 256.
-fn are_bytes(image: &[u8])
+pub(crate) fn are_bytes(image: &[u8])
     ensures { AreBytes image.now }
 {
     let _ = image;

@@ -3,16 +3,16 @@
 /// How a command ended.
 #[derive(Clone, Copy, Debug, PartialEq, Eq)]
 pub enum Status {
-    /// The text was written whole, and a strand that ran halted.
+    /// The text was written whole, and each strand that ran halted.
     Good,
     /// The words are not in the form of a command that is served.
     Usage,
-    /// The input is too long, no program that can be loaded or no assembly text, or its run met a
-    /// point that is not built.
+    /// The input is too long, no program that can be loaded, no assembly text or no log.
     Refused,
-    /// The text was written whole, and the strand ended by a trap at trap level 6.
+    /// The text was written whole, and some strand ended by a trap at trap level 6.
     Fault,
-    /// The text was written whole, and the strand made all units of its budget and did not halt.
+    /// The text was written whole, no strand did so, and some strand made all units of its budget and did
+    /// not halt.
     Spent,
     /// A read of the input failed.
     ReadFault,

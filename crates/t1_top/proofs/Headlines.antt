@@ -19,13 +19,14 @@ live_in_order : (w : Setup) (report : Report) → IsLiveReportOf w report → Is
 live_in_order w report r = record {
   config = ap (λ v. v.config) r.is ∙ ap (λ v. v.config) r.setup;
   image = ap (λ v. v.image) r.is ∙ ap (λ v. v.image) r.setup;
+  strands = r.ends.history.all_strands;
   lists = r.listing;
   obeys = subst (λ image. ObeysTso image.ram (items_of report.traces) report.order) (sym (ap (λ v. v.image) r.is ∙ ap (λ v. v.image) r.setup)) r.obeys;
   follows = r.ends.history.table;
 }
 
 live_claims : (w : Setup) (report : Report) → IsLiveReportOf w report → claimed_of_live w report
-live_claims w report r = (live_in_order w report r, r.ends.covered)
+live_claims w report r = (live_in_order w report r, r.ends.history, r.ends.covered)
 
 -- an answer to words makes the headline true of them
 pub command_claims : (asked : Option Command) (left left' old new : Option (List ℕ)) (result : Status)
