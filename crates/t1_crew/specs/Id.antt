@@ -3,7 +3,7 @@ use Rattle.std.specs.Prelude.{ℕ, List}
 use Rattle.t1_joint.specs.Start.{Setup}
 use Rattle.t1_ring.specs.Ends.{Mark}
 
--- what its run begins with, its number, and the ports of its sending and receiving ends
+-- what its run begins with, its number, and the marks of its sending and receiving ends and seats
 pub record Id : Type 0 where
   pub setup : Setup
   pub number : ℕ

@@ -30,7 +30,7 @@ pub enum Turned {
     Ended,
 }
 
-/// One part of a run, with the ends of its ports. Its identity stays the same at each turn, and once
+/// One part of a run, with its ends and seats. Its identity stays the same at each turn, and once
 /// it has ended, it is over.
 pub trait Agent {
     ghost id: { Self → Id };

@@ -1,6 +1,6 @@
 //! Agents in threads of their own.
 //!
-//! An [`Agent`] owns its part of a run and the ends of its ports, and goes on by turns. [`run_crew`]
+//! An [`Agent`] owns its part of a run with its ends and seats, and goes on by turns. [`run_crew`]
 //! moves each agent of a [`Crew`] into a thread and turns it there until it has ended; then the thread
 //! hands it back, under a promise that it is the same agent with the same ends. An agent for which
 //! there is no thread is turned by the caller, one turn at a time. Agents tell one another by [`Flags`]

@@ -1,4 +1,4 @@
--- Ports whose ends meet, and ties as far as they have come.
+-- Ends and seats that meet, and ties as far as they have come.
 use Rattle.std.specs.Prelude.{ℕ, ◌≡◌, ◌<◌, List, [], length, get_or, Some}
 use Rattle.std.specs.List.{slice_get}
 use Rattle.t1_joint.specs.Lists.{IsPrefix}

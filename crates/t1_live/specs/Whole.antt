@@ -49,7 +49,7 @@ parts_of cores dests crossbar admissions = record {
   crossbar = crossbar_part crossbar admissions;
 }
 
--- ---- rings: what was received is what was sent, as far as it came
+-- ---- rings and queues: what was received is what was sent, as far as it came
 
 pub record AreTied (cores : List CoreSide) (dests : List DestinationSide) (crossbar : CrossbarSide) : Type 0 where
   pub to_destination : (c d : ℕ) (core : CoreSide) (dest : DestinationSide) → slice_get cores c ≡ Some core → slice_get dests d ≡ Some dest

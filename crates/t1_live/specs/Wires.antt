@@ -1,4 +1,4 @@
--- Who is tied to whom: the ports between cores, destinations and the crossbar.
+-- Who is tied to whom: the rings and request queues between cores, destinations and the crossbar.
 use Rattle.std.specs.Prelude.{ℕ, ◌≡◌, ◌+◌, List, [], ◌∷◌, length, Some}
 use Rattle.std.specs.List.{slice_get}
 use Rattle.t1_shape.specs.Shapes.Shape.{T1}

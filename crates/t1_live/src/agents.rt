@@ -29,7 +29,7 @@ const MOST_SERVED: usize = 2;
 /// The packets that a core may not have taken yet.
 const MOST_PACKETS: usize = 16;
 
-/// All agents of a run, whose ports meet, with the room of its report.
+/// All agents of a run, whose ends and seats meet, with the room of its report.
 ///
 /// They are seen as their configuration and image, the agents, and the bytes of the console that there
 /// is room for.

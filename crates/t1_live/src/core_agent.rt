@@ -132,7 +132,7 @@ impl CoreAgent {
         true
     }
 
-    /// Sends the oldest store of a strand, if it can: whether it did.
+    /// Sends the oldest store of a strand that is not sent, if it can: whether it did.
     fn drain<R: Wait>(&mut self, rt: &R, strand: u8) -> bool
         ensures { core_id self.new ≡ core_id self.old }
     {

@@ -1,4 +1,4 @@
-//! The ties of all ports, once the threads are joined.
+//! The ties of all ports and seats, once the threads are joined.
 ghost use Rattle.std.specs.Prelude.{◌≡◌, ◌<◌, [], length, get_or, slice_get, vec_len};
 ghost use mathlib.Core.List.{IsPrefix};
 ghost use Rattle.t1_crew.specs.Slots.{ids};
@@ -105,7 +105,7 @@ fn tie_all_packets(crossbar: &mut CrossbarAgent, cores: &mut Vec<CoreAgent>)
     }
 }
 
-/// Ties all ports, so that the parts of the agents fit.
+/// Ties all ports and seats, so that the parts of the agents fit.
 pub(crate) fn tie_all(
     cores: &mut Vec<CoreAgent>,
     dests: &mut Vec<DestinationAgent>,
