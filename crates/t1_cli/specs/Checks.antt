@@ -7,7 +7,7 @@ use Rattle.t1_check.specs.declared.verdict.Axiom.TheVariants.{Listing, LoadOp, S
 use Rattle.t1_check.specs.declared.verdict.Verdict.{Verdict}
 use Rattle.t1_check.specs.declared.verdict.Verdict.TheVariants.{Holds, Broken}
 use Rattle.t1_log.specs.Log.{text_of}
-use Rattle.t1_read.specs.WellFormed.{IsWellFormed}
+use Rattle.t1_take.specs.WellFormed.{IsWellFormed}
 use Rattle.t1_read.specs.Exact.{HasBytes}
 use Rattle.t1_cli.specs.declared.refusal.Refusal.{Refusal}
 use Rattle.t1_cli.specs.declared.refusal.Refusal.TheVariants.{TooLong, NoLog}

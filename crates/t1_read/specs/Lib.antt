@@ -1,9 +1,1 @@
-pub mod Limits
-pub mod Taken
-pub mod Digits
-pub mod Items
-pub mod Fields
-pub mod Image
-pub mod Commits
-pub mod WellFormed
 pub mod Exact

@@ -7,26 +7,25 @@ ghost use Rattle.t1_event.specs.declared.commit.Commit.{Commit as CommitData};
 ghost use Rattle.t1_event.specs.declared.report.Place.{Place as PlaceData};
 ghost use Rattle.t1_read.specs.Exact.{IsRead, NextIsNot, HasBytes};
 ghost use Rattle.t1_event.specs.declared.report.Report.{Report as ReportData};
-ghost use Rattle.t1_read.specs.WellFormed.{IsNamed};
+ghost use Rattle.t1_take.specs.WellFormed.{IsNamed};
 ghost use Rattle.t1_log.specs.Lines.{config_line_of, entry_line_of};
 ghost use Rattle.t1_log.specs.Lines.{end_line};
 ghost use Rattle.t1_log.specs.Log.{version_line, commit_line_of, console_lines_of, text_of};
 ghost use Rattle.t1_log.specs.Texts.{lines_from, image_lines_of, order_lines_of};
-ghost use Rattle.t1_read.specs.Taken.{Reads};
+ghost use Rattle.t1_take.specs.Taken.{Reads};
 ghost use Rattle.t1_event.specs.Items.{items_of};
 ghost use Rattle.t1_event.specs.Printable.{FitsDigits};
-ghost use Rattle.t1_read.specs.Limits.{is_in_limits};
-ghost use Rattle.t1_read.specs.WellFormed.{AreGoodCommits, IsGoodPlace, IsWellFormed};
+ghost use Rattle.t1_take.specs.Limits.{is_in_limits};
+ghost use Rattle.t1_take.specs.WellFormed.{AreGoodCommits, IsGoodPlace, IsWellFormed};
 
-use crate::commit::take_commit;
-use crate::cursor::Cursor;
 use crate::error::{LogError, LogKind};
-use crate::head::{take_block, take_config, take_entry};
-use crate::lists::{append, take_console, take_place};
 use crate::strands::read_strands;
 use std::alloc::Global;
 use t1_elf::{Image, Listed};
 use t1_event::{Commit, Config, Place, Report, Trace};
+use t1_take::{
+    Cursor, append, take_block, take_commit, take_config, take_console, take_entry, take_place,
+};
 
 /// The lines of a text that were taken: where the next one begins, and how many there were.
 #[derive(Clone, Copy)]
@@ -48,7 +47,7 @@ fn whole_lines(text: &[u8], at: usize) -> u32 {
 
 impl Lines {
     pub(crate) fn next(&self) -> Cursor
-        ensures { result ≡ record { at = self.now.at; form = true; fits = true } }
+        ensures { result ≡ record { at = self.now.at; good = true } }
     {
         Cursor::new(self.at)
     }
@@ -62,10 +61,7 @@ impl Lines {
     }
 
     /// What is at fault with the line that a cursor could not take.
-    pub(crate) fn fault(&self, text: &[u8], cursor: Cursor) -> LogError {
-        if cursor.form {
-            return self.here(LogKind::Range);
-        }
+    pub(crate) fn fault(&self, text: &[u8], _cursor: Cursor) -> LogError {
         if whole_lines(text, self.at) == 0 {
             return LogError {
                 line: self.count,

@@ -5,15 +5,15 @@ ghost use Rattle.t1_event.specs.declared.trace.Trace.{Trace as TraceData};
 ghost use Rattle.t1_read.specs.Exact.{IsRead, NextIsNot};
 ghost use Rattle.t1_log.specs.Texts.{lines_from};
 ghost use Rattle.t1_log.specs.Log.{item_line_of, trace_lines_of};
-ghost use Rattle.t1_read.specs.Taken.{Reads};
-ghost use Rattle.t1_read.specs.Items.{IsGoodItem, IsGoodTrace};
+ghost use Rattle.t1_take.specs.Taken.{Reads};
+ghost use Rattle.t1_take.specs.Items.{IsGoodItem, IsGoodTrace};
 
 use crate::error::LogError;
-use crate::item::{take_end, take_item};
 use crate::reader::Lines;
 use std::alloc::Global;
 use t1_elf::Listed;
 use t1_event::{Item, Trace};
+use t1_take::{take_end, take_item};
 
 /// Reads the lines of the items of a strand.
 fn read_items(

@@ -38,9 +38,9 @@ use Rattle.t1_joint.specs.Start.{Setup, start_in, bounds_in}
 use Rattle.t1_joint.specs.Shaped.{IsShaped, LiesRightly}
 use Rattle.t1_joint.specs.JointHistory.{IsJointHistory, IsPostTime, IsBankCommit, IsBridgeCommit, shown_at, run_of}
 use Rattle.t1_joint.proofs.Shapes.{items_shaped}
-use Rattle.t1_read.specs.Limits.{is_in_limits}
-use Rattle.t1_read.specs.Items.{IsSizeOf, IsReached, IsValueOf, IsPlaceOf, IsGoodItem, IsGoodEnd, IsGoodTrace}
-use Rattle.t1_read.specs.WellFormed.{IsGoodKill, IsGoodWay, IsGoodEvicted, IsGoodCommit, IsGoodPlace, IsWellFormed}
+use Rattle.t1_take.specs.Limits.{is_in_limits}
+use Rattle.t1_take.specs.Items.{IsSizeOf, IsReached, IsValueOf, IsPlaceOf, IsGoodItem, IsGoodEnd, IsGoodTrace}
+use Rattle.t1_take.specs.WellFormed.{IsGoodKill, IsGoodWay, IsGoodEvicted, IsGoodCommit, IsGoodPlace, IsWellFormed}
 use Rattle.t1_reads_back.specs.Laws.{AreWords, reported, JointHistoriesAreWellFormed}
 use Rattle.t1_machine_rule.proofs.Texts.{IsSmallEnding, trace_ending}
 use Rattle.t1_reads_back.proofs.Blanks.{IsBarrierSize, trace_blank}

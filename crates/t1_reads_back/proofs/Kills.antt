@@ -18,7 +18,7 @@ use Rattle.t1_event.specs.declared.commit.Commit.{Commit}
 use Rattle.t1_event.specs.Log.{core_of}
 use Rattle.t1_event.specs.Kills.{is_doomed, kills_here, kills_below}
 use Rattle.t1_event.specs.Shadow.{with_commit, directory_at}
-use Rattle.t1_read.specs.WellFormed.{IsGoodKill}
+use Rattle.t1_take.specs.WellFormed.{IsGoodKill}
 
 -- ---- directories have 512 slots
 

@@ -15,8 +15,8 @@ use Rattle.t1_machine.specs.Machine.{MachineState}
 use Rattle.t1_machine_rule.specs.Parts.{traces_in}
 use Rattle.t1_machine_rule.specs.Stands.{IsRunOf}
 use Rattle.t1_machine_rule.specs.Ends.{NoneEnabled, report_of}
-use Rattle.t1_read.specs.Limits.{is_in_limits}
-use Rattle.t1_read.specs.WellFormed.{IsWellFormed}
+use Rattle.t1_take.specs.Limits.{is_in_limits}
+use Rattle.t1_take.specs.WellFormed.{IsWellFormed}
 use Rattle.t1_read.specs.Exact.{HasBytes}
 
 -- the units and the PC of a trace are words of 32 and of 64 bits, as their types say

@@ -2,7 +2,7 @@
 //! ended, are well formed. Definitions and laws alone.
 //!
 //! `t1_read::read_log` answers the report of a text where that is well formed (`IsWellFormed` of
-//! `t1_read`). `specs/Laws.antt` has the laws: what the log does not print of such a report is what it
+//! `t1_take`). `specs/Laws.antt` has the laws: what the log does not print of such a report is what it
 //! says of itself, and each value is in the range that a log can have.
 //!
 //! `proofs/Masks.antt` says that a word decodes to a membar of a mask of 7 bits, `proofs/Blanks.antt`

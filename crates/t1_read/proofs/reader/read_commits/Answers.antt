@@ -5,13 +5,13 @@ use Rattle.std.specs.List.{slice_get}
 use Rattle.t1_event.specs.declared.commit.Commit.{Commit}
 use Rattle.t1_event.specs.Items.{items_of}
 use Rattle.t1_log.specs.Log.{commit_line_of}
-use Rattle.t1_read.specs.declared.cursor.Cursor.{Cursor}
-use Rattle.t1_read.specs.Taken.{Reads}
-use Rattle.t1_read.proofs.ListTexts.{start_read, one_more_read, reads_between}
-use Rattle.t1_read.proofs.CommitTexts.{commits_more}
+use Rattle.t1_take.specs.declared.cursor.Cursor.{Cursor}
+use Rattle.t1_take.specs.Taken.{Reads}
+use Rattle.t1_take.proofs.ListTexts.{start_read, one_more_read, reads_between}
+use Rattle.t1_take.proofs.CommitTexts.{commits_more}
 use Rattle.t1_log.specs.Texts.{lines_from}
-use Rattle.t1_read.specs.WellFormed.{IsNamed, IsGoodCommit}
-use Rattle.t1_read.proofs.Leaving.{left_start, left_cases, stepped, not_past, commit_some, commit_first, begun_good, begun_at, peeked, all_next, slice_middle}
+use Rattle.t1_take.specs.WellFormed.{IsNamed, IsGoodCommit}
+use Rattle.t1_take.proofs.Leaving.{left_start, left_cases, stepped, not_past, commit_some, commit_first, begun_good, begun_at, peeked, all_next, slice_middle}
 use Rattle.t1_read.proofs.reader.read_commits.Goals as goal
 
 pub loop-index-init : goal.loop-index-init

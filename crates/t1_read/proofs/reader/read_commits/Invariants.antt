@@ -3,10 +3,10 @@ use Rattle.t1_event.specs.declared.commit.Commit.{Commit}
 use Rattle.t1_event.specs.Items.{items_of}
 use Rattle.t1_log.specs.Texts.{lines_from}
 use Rattle.t1_log.specs.Log.{commit_line_of}
-use Rattle.t1_read.specs.Taken.{Reads}
+use Rattle.t1_take.specs.Taken.{Reads}
 use Rattle.t1_read.specs.Exact.{NextIsNot}
-use Rattle.t1_read.specs.WellFormed.{IsNamed, AreGoodCommits}
-use Rattle.t1_read.proofs.Leaving.{IsLeft}
+use Rattle.t1_take.specs.WellFormed.{IsNamed, AreGoodCommits}
+use Rattle.t1_take.proofs.Leaving.{IsLeft}
 use Rattle.t1_read.proofs.reader.read_commits.Given as goal
 
 abbrev pub invariant-loop-index : goal.invariant-loop-index

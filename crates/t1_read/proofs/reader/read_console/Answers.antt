@@ -2,11 +2,11 @@ use Rattle.std.proofs.Common.{◌≡◌, ◌∙◌, ◌++◌, ℕ, List, true, f
 use Rattle.std.proofs.lemmas.List.{length-append, length-drop}
 use Rattle.std.proofs.lemmas.Bool.{eqb-true}
 use Rattle.t1_log.specs.Log.{console_line_of, console_lines_of}
-use Rattle.t1_read.specs.declared.cursor.Cursor.{Cursor}
-use Rattle.t1_read.specs.Taken.{Reads}
-use Rattle.t1_read.proofs.ListTexts.{reads_between}
-use Rattle.t1_read.proofs.ConsoleTexts.{no_run, one_more_run, whole_more}
-use Rattle.t1_read.proofs.Leaving.{begun_good, begun_at, peeked, brought}
+use Rattle.t1_take.specs.declared.cursor.Cursor.{Cursor}
+use Rattle.t1_take.specs.Taken.{Reads}
+use Rattle.t1_take.proofs.ListTexts.{reads_between}
+use Rattle.t1_take.proofs.ConsoleTexts.{no_run, one_more_run, whole_more}
+use Rattle.t1_take.proofs.Leaving.{begun_good, begun_at, peeked, brought}
 use Rattle.t1_read.proofs.ConsoleFound.{console_start, console_cases, console_over, console_next, console_bytes, console_few, console_first, console_some}
 use Rattle.t1_read.proofs.reader.read_console.Goals as goal
 

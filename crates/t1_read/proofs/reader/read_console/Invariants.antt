@@ -1,7 +1,7 @@
 use Rattle.std.proofs.Common.{◌≡◌, ◌%◌, ◌≤◌, ◌++◌, ℕ, List, drop, IsTrue, length}
 use Rattle.t1_num.specs.MemoryLaws.{AreBytes}
 use Rattle.t1_log.specs.Log.{console_lines_of}
-use Rattle.t1_read.specs.Taken.{Reads}
+use Rattle.t1_take.specs.Taken.{Reads}
 use Rattle.t1_read.specs.Exact.{NextIsNot}
 use Rattle.t1_read.proofs.ConsoleFound.{ConsoleLeft}
 use Rattle.t1_read.proofs.reader.read_console.Given as goal

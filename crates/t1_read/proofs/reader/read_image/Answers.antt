@@ -2,10 +2,10 @@ use Rattle.std.proofs.Common.{◌≡◌, ◌∙◌, ◌+◌, ◌*◌, ◌-◌, �
 use Rattle.std.proofs.lemmas.List.{length-append, length-drop}
 use Rattle.std.proofs.lemmas.Option.{same_Some, none-some}
 use Rattle.t1_log.specs.Lines.{block_line_of}
-use Rattle.t1_read.specs.declared.cursor.Cursor.{Cursor}
-use Rattle.t1_read.specs.Image.{IsWritten}
-use Rattle.t1_read.proofs.ImageTexts.{image_start, image_end, block_more}
-use Rattle.t1_read.proofs.Leaving.{begun_good, begun_at, peeked, brought}
+use Rattle.t1_take.specs.declared.cursor.Cursor.{Cursor}
+use Rattle.t1_take.specs.Image.{IsWritten}
+use Rattle.t1_take.proofs.ImageTexts.{image_start, image_end, block_more}
+use Rattle.t1_take.proofs.Leaving.{begun_good, begun_at, peeked, brought}
 use Rattle.t1_read.proofs.ImageFound.{lines_of, block_of, find_block, image_begun, image_done, image_more, block_next, block_first, block_some}
 use Rattle.t1_read.proofs.reader.read_image.Goals as goal
 

@@ -3,7 +3,7 @@ use Rattle.t1_num.specs.MemoryLaws.{AreBytes}
 use Rattle.t1_log.specs.Texts.{image_lines_of}
 use Rattle.t1_read.specs.Exact.{NextIsNot}
 use Rattle.t1_read.proofs.ImageFound.{ImageLeft}
-use Rattle.t1_read.proofs.ImageTexts.{IsImageSoFar}
+use Rattle.t1_take.proofs.ImageTexts.{IsImageSoFar}
 use Rattle.t1_read.proofs.reader.read_image.Given as goal
 
 abbrev pub invariant-loop-line : goal.invariant-loop-line

@@ -4,11 +4,11 @@ use Rattle.std.proofs.lemmas.Option.{same_Some, none-some}
 use Rattle.t1_event.specs.declared.report.Place.{Place}
 use Rattle.t1_log.specs.Lines.{place_line_of}
 use Rattle.t1_log.specs.Texts.{lines_from}
-use Rattle.t1_read.specs.declared.cursor.Cursor.{Cursor}
-use Rattle.t1_read.specs.Taken.{Reads}
-use Rattle.t1_read.specs.WellFormed.{IsGoodPlace}
-use Rattle.t1_read.proofs.ListTexts.{all_none, start_read, one_more_read, reads_between}
-use Rattle.t1_read.proofs.Leaving.{left_start, left_cases, stepped, not_past, place_some, place_first, begun_good, begun_at, peeked, all_next}
+use Rattle.t1_take.specs.declared.cursor.Cursor.{Cursor}
+use Rattle.t1_take.specs.Taken.{Reads}
+use Rattle.t1_take.specs.WellFormed.{IsGoodPlace}
+use Rattle.t1_take.proofs.ListTexts.{all_none, start_read, one_more_read, reads_between}
+use Rattle.t1_take.proofs.Leaving.{left_start, left_cases, stepped, not_past, place_some, place_first, begun_good, begun_at, peeked, all_next}
 use Rattle.t1_read.proofs.reader.read_order.Goals as goal
 
 abbrev line : ℕ → Place → List ℕ

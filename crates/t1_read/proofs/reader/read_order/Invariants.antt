@@ -2,10 +2,10 @@ use Rattle.std.proofs.Common.{◌≡◌, ◌≤◌, ◌++◌, ℕ, List, drop, A
 use Rattle.t1_event.specs.declared.report.Place.{Place}
 use Rattle.t1_log.specs.Lines.{place_line_of}
 use Rattle.t1_log.specs.Texts.{order_lines_of}
-use Rattle.t1_read.specs.Taken.{Reads}
+use Rattle.t1_take.specs.Taken.{Reads}
 use Rattle.t1_read.specs.Exact.{NextIsNot}
-use Rattle.t1_read.specs.WellFormed.{IsGoodPlace}
-use Rattle.t1_read.proofs.Leaving.{IsLeft}
+use Rattle.t1_take.specs.WellFormed.{IsGoodPlace}
+use Rattle.t1_take.proofs.Leaving.{IsLeft}
 use Rattle.t1_read.proofs.reader.read_order.Given as goal
 
 abbrev pub invariant-loop-line : goal.invariant-loop-line
