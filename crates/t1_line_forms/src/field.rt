@@ -47,7 +47,7 @@ pub(crate) fn after<'a>(text: &'a [u8], word: &[u8]) -> Option<&'a [u8]>
 
 fn cut_word<'a>(word: &'static [u8], text: &'a [u8]) -> Option<(&'a [u8], &'a [u8])>
     ensures some { IfSome result (λ cut. (text.now ≡ cut.0.now ++ cut.1.now) × (cut.0.now ≡ word.now)) }
-    ensures only { (rest : List ℕ) → text.now ≡ word.now ++ rest → MatchOption result ⊥ (λ cut. cut.1.now ≡ rest) }
+    ensures only { (piece rest : List ℕ) → text.now ≡ piece ++ rest → piece ≡ word.now → MatchOption result ⊥ (λ cut. (cut.0.now ≡ piece) × (cut.1.now ≡ rest)) }
 {
     match after(text, word) {
         Some(rest) => Some((word, rest)),
