@@ -5,7 +5,7 @@ use Rattle.std.proofs.lemmas.List.{length-take, length-drop, take-append-drop, n
 use Rattle.t1_num.specs.MemoryLaws.{AreBytes}
 use Rattle.t1_log.specs.Texts.{lines_from, blocks_from}
 use Rattle.t1_log.specs.Log.{console_line_of, console_lines_of}
-use Rattle.t1_read.proofs.ConsoleTexts.{no_console, unnumbered}
+use Rattle.t1_take.proofs.ConsoleTexts.{no_console, unnumbered}
 use Rattle.t1_read.proofs.ImageFound.{bytes_take}
 
 renumber : (n m : ℕ) (bs : List (List ℕ)) → lines_from console_line_of n bs ≡ lines_from console_line_of m bs

@@ -5,8 +5,8 @@ use Rattle.std.proofs.lemmas.List.{length-take, length-drop, get_or-take, get_or
 use Rattle.t1_num.specs.MemoryLaws.{AreBytes}
 use Rattle.t1_log.specs.Lines.{block_line_of}
 use Rattle.t1_log.specs.Texts.{lines_from, blocks_from, is_blank, block_lines_of, image_lines_of}
-use Rattle.t1_read.specs.Image.{IsBlockAt, HasBlock}
-use Rattle.t1_read.proofs.ImageTexts.{blank_lines, some_lines, IsImageSoFar}
+use Rattle.t1_take.specs.Image.{IsBlockAt, HasBlock}
+use Rattle.t1_take.proofs.ImageTexts.{blank_lines, some_lines, IsImageSoFar}
 
 -- ---- bytes
 

@@ -15,9 +15,9 @@ use Rattle.t1_event.specs.declared.report.Report.{Report}
 use Rattle.t1_event.specs.Kinds.{is_access, IsAccess}
 use Rattle.t1_event.specs.Times.{IsPlaced}
 use Rattle.t1_event.specs.Printable.{HasText, HasEnded, IsEvictedAddress, IsPrintableReport}
-use Rattle.t1_read.specs.Items.{IsReached, IsValueOf, IsPlaceOf, IsGoodItem, IsGoodEnd}
-use Rattle.t1_read.specs.WellFormed.{IsGoodEvicted, IsWellFormed}
-use Rattle.t1_read.proofs.Words.{size_of}
+use Rattle.t1_take.specs.Items.{IsReached, IsValueOf, IsPlaceOf, IsGoodItem, IsGoodEnd}
+use Rattle.t1_take.specs.WellFormed.{IsGoodEvicted, IsWellFormed}
+use Rattle.t1_take.proofs.ItemsFound.{size_of}
 
 reached_fits : (ram addr : ℕ) (k : ItemKind) → ram ≤ 2 ^ 40 → IsAccess k → IsReached ram k addr → addr < 2 ^ 40
 reached_fits ram addr Fetch m a r = omega (arith, m, r)

@@ -12,12 +12,12 @@ use Rattle.t1_event.specs.Items.{items_of}
 use Rattle.t1_log.specs.Lines.{config_line_of, entry_line_of, place_line_of, ending_line_of, end_line}
 use Rattle.t1_log.specs.Texts.{lines_from, image_lines_of, head_lines_of, order_lines_of}
 use Rattle.t1_log.specs.Log.{version_line, item_line_of, trace_lines_of, commit_line_of, console_line_of, console_lines_of, text_of}
-use Rattle.t1_read.specs.Items.{IsGoodTrace}
+use Rattle.t1_take.specs.Items.{IsGoodTrace}
 use Rattle.t1_read.specs.Exact.{NextIsNot}
-use Rattle.t1_read.specs.WellFormed.{IsNamed, IsWellFormed}
-use Rattle.t1_read.proofs.Leaving.{place_some, place_first, item_some, item_first}
+use Rattle.t1_take.specs.WellFormed.{IsNamed, IsWellFormed}
+use Rattle.t1_take.proofs.Leaving.{place_some, place_first, item_some, item_first}
 use Rattle.t1_read.proofs.StrandsFound.{has_ended, trace_is, end_some, end_first}
-use Rattle.t1_read.proofs.HeadTexts.{numbers_small}
+use Rattle.t1_take.proofs.HeadTexts.{numbers_small}
 
 -- ---- what follows each part
 

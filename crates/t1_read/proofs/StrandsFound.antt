@@ -5,7 +5,7 @@ use Rattle.t1_event.specs.declared.trace.Ending.{Ending}
 use Rattle.t1_log.specs.Lines.{ending_line_of}
 use Rattle.t1_log.specs.Texts.{lines_from}
 use Rattle.t1_log.specs.Log.{item_line_of, trace_lines_of}
-use Rattle.t1_read.specs.Items.{IsGoodEnd}
+use Rattle.t1_take.specs.Items.{IsGoodEnd}
 use Rattle.t1_read.specs.Exact.{NextIsNot}
 
 pub record IsEnded (o : Option Ending) : Type 0 where

@@ -4,8 +4,8 @@ use Rattle.t1_event.specs.declared.report.Report.{Report}
 use Rattle.t1_log.specs.Lines.{config_line_of, entry_line_of, end_line}
 use Rattle.t1_log.specs.Texts.{lines_from, image_lines_of, head_lines_of, order_lines_of}
 use Rattle.t1_log.specs.Log.{version_line, trace_lines_of, commit_line_of, console_lines_of, text_of}
-use Rattle.t1_read.specs.Taken.{Reads}
-use Rattle.t1_read.proofs.Taking.{reads_then}
+use Rattle.t1_take.specs.Taken.{Reads}
+use Rattle.t1_take.proofs.Taking.{reads_then}
 
 -- where each part of a report stands
 pub record Stands (text : List ℕ) (report : Report) : Type 0 where

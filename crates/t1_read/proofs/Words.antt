@@ -14,22 +14,15 @@ use Rattle.t1_event.specs.declared.report.Report.{Report}
 use Rattle.t1_event.specs.Kinds.{IsAccess}
 use Rattle.t1_event.specs.Items.{items_of}
 use Rattle.t1_check.specs.Checked.{LiesInWord, CanBeChecked}
-use Rattle.t1_read.specs.Items.{IsSizeOf, IsGoodItem}
-use Rattle.t1_read.specs.WellFormed.{IsWellFormed}
+use Rattle.t1_take.specs.Items.{IsGoodItem}
+use Rattle.t1_take.specs.WellFormed.{IsWellFormed}
+use Rattle.t1_take.proofs.ItemsFound.{size_of}
 
 in_word : (addr size : ℕ) → IsSize size → addr % size ≡ 0 → addr % 8 + size ≤ 8
 in_word addr size (inl e) a = omega (arith, e)
 in_word addr size (inr (inl e)) a = let b : addr % 2 ≡ 0 = subst (λ (n : ℕ). addr % n ≡ 0) e a in omega (arith, e, b)
 in_word addr size (inr (inr (inl e))) a = let b : addr % 4 ≡ 0 = subst (λ (n : ℕ). addr % n ≡ 0) e a in omega (arith, e, b)
 in_word addr size (inr (inr (inr e))) a = let b : addr % 8 ≡ 0 = subst (λ (n : ℕ). addr % n ≡ 0) e a in omega (arith, e, b)
-
-pub size_of : (k : ItemKind) (size : ℕ) → IsAccess k → IsSizeOf k size → IsSize size
-size_of Fetch size a e = inr (inr (inl e))
-size_of Load size a e = e
-size_of Store size a e = e
-size_of (Atomic w) size a e = e
-size_of Membar size a e = cc
-size_of Flush size a e = cc
 
 item_in_word : (ram : ℕ) (item : Item) → IsGoodItem ram item → LiesInWord item
 item_in_word ram item good a = in_word item.addr item.size (size_of item.kind item.size a good.size) (good.aligned a)

@@ -1,9 +1,3 @@
-pub mod Limits
-pub mod Taken
-pub mod Digits
-pub mod Items
-pub mod Fields
-pub mod Image
-pub mod Commits
-pub mod WellFormed
 pub mod Exact
+pub mod Faults
+pub mod Standing

@@ -1,188 +1,148 @@
-//! The lines of a log before its lists: the machine, where every strand starts, and the image.
-
-ghost use Rattle.std.specs.Prelude.{ℕ, ◌≡◌, ◌+◌, ◌-◌, ◌%◌, ◌≤◌, ◌&&◌, nat_le, nat_lt, if◌then◌else◌, ◌++◌, List, length, drop, get_or, IsTrue, IfSome, Some};
-ghost use Rattle.t1_log.specs.Hex.{hex_of_bytes};
-ghost use Rattle.t1_log.specs.Texts.{is_blank};
-ghost use Rattle.t1_read.specs.Image.{IsWritten, IsBlockAt, HasBlock};
+//! The head of a log: its version, the machine, the image.
+ghost use Rattle.std.specs.Prelude.{ℕ, ◌≡◌, ◌*◌, ◌%◌, ◌^◌, ◌<◌, ◌≤◌, ◌++◌, List, [], length, drop, get_or, IsTrue, IfOk};
 ghost use Rattle.t1_num.specs.MemoryLaws.{AreBytes};
+ghost use Rattle.t1_elf.specs.declared.object.Image.{Image as ImageData};
 ghost use Rattle.t1_event.specs.declared.report.Config.{Config as ConfigData};
 ghost use Rattle.t1_event.specs.Printable.{FitsDigits};
-ghost use Rattle.t1_log.specs.Lines.{config_line_of, entry_line_of, block_line_of};
-ghost use Rattle.t1_read.specs.Taken.{Reads, IsGood, Takes, Leaves};
-ghost use Rattle.t1_read.specs.Limits.{is_ram, is_set_count, is_budget, is_in_limits};
+ghost use Rattle.t1_log.specs.Lines.{config_line_of, entry_line_of};
+ghost use Rattle.t1_log.specs.Log.{version_line};
+ghost use Rattle.t1_log.specs.Texts.{image_lines_of, head_lines_of};
+ghost use Rattle.t1_take.specs.Limits.{is_in_limits};
+ghost use Rattle.t1_take.specs.Taken.{Reads};
+ghost use Rattle.t1_read.specs.Exact.{IsRead, NextIsNot};
+ghost use Rattle.t1_read.specs.Faults.{AtConfig, AtEntry};
+ghost use Rattle.t1_read.specs.Standing.{Stands, Leads, IsHead, HasTraces, IsGoodHead};
 
-use crate::cursor::Cursor;
+use crate::error::{LogError, LogKind};
+use crate::lines::{Lines, first_line};
+use std::alloc::Global;
+use t1_elf::{Image, Listed};
 use t1_event::Config;
+use t1_line_forms::Line;
+use t1_take::{take_block, take_config, take_entry};
 
-/// Whether this much RAM can be: 64 KiB to 256 MiB in steps of 64 KiB.
-fn is_ram(ram: u32) -> bool
-    ensures { result ≡ is_ram ram }
-{
-    65_536 <= ram && (ram <= 268_435_456 && ram % 65_536 == 0)
+/// The machine of a log, and its image.
+pub(crate) struct Head {
+    pub config: Config,
+    pub image: Image,
 }
 
-/// Whether this many sets can be: a power of two up to 1,024.
-#[tactic(auto, unfolding(crate::specs::Limits::is_set_count))]
-fn is_set_count(sets: u32) -> bool
-    ensures { result ≡ is_set_count sets }
+/// Reads the version line.
+fn read_version(lines: &mut Lines, text: &[u8]) -> Result<(), LogError>
+    ensures reads { IfOk result (λ _. Reads text.now lines.old.at lines.new.at version_line) }
+    ensures finds { (rest : List ℕ) → drop lines.old.at text.now ≡ version_line ++ rest → IsRead result (λ _. drop lines.new.at text.now ≡ rest) }
+    ensures leads { lines.old.at ≡ 0 → Leads text.now result (λ _. Stands text.now lines.new.at AtConfig) }
 {
-    sets == 1
-        || sets == 2
-        || sets == 4
-        || sets == 8
-        || sets == 16
-        || sets == 32
-        || sets == 64
-        || sets == 128
-        || sets == 256
-        || sets == 512
-        || sets == 1024
-}
-
-/// Whether a budget can be that of each of so many strands, which make at most 1,000,000 units.
-fn is_budget(budget: u32, strands: u64) -> bool
-    requires { strands ≤ 1024 }
-    ensures { result ≡ is_budget budget strands }
-{
-    1 <= budget && (budget <= 1_000_000 && u64::from(budget) * strands <= 1_000_000)
-}
-
-/// Whether the numbers of a machine are in their limits.
-fn is_in_limits(config: &Config) -> bool
-    ensures { result ≡ is_in_limits config.now }
-{
-    (1 <= config.cores && config.cores <= 8)
-        && ((1 <= config.strands && config.strands <= 4)
-            && (config.ram <= 268_435_456
-                && is_ram(config.ram as u32)
-                && (is_set_count(config.sets)
-                    && is_budget(
-                        config.budget,
-                        u64::from(config.cores) * u64::from(config.strands),
-                    ))))
-}
-
-/// The machine of these numbers, where they are in their limits.
-fn config_of(cores: u32, strands: u32, ram: u32, sets: u32, budget: u32) -> Option<Config>
-    ensures some { IfSome result (λ config. (config ≡ record { cores = cores; strands = strands; ram = ram; sets = sets; budget = budget }) × IsTrue (is_in_limits config)) }
-    ensures finds { IsTrue (is_in_limits (record { cores = cores; strands = strands; ram = ram; sets = sets; budget = budget })) → result ≡ Some (record { cores = cores; strands = strands; ram = ram; sets = sets; budget = budget }) }
-{
-    if cores > 8 || strands > 4 {
-        return None;
+    let mut cursor = lines.next();
+    cursor.word(text, b"t1log 1\n");
+    if cursor.is_good() {
+        lines.went(cursor);
+        return Ok(());
     }
-    let config = Config {
-        cores: cores as u8,
-        strands: strands as u8,
-        ram: u64::from(ram),
-        sets,
-        budget,
-    };
-    if is_in_limits(&config) {
-        Some(config)
-    } else {
-        None
+    match first_line(text) {
+        Some(_line) => Err(LogError {
+            line: 1,
+            kind: LogKind::Version,
+        }),
+        None => Err(LogError {
+            line: 0,
+            kind: LogKind::Unended,
+        }),
     }
 }
 
-/// Takes the line of a machine.
-#[tactic(auto, unfolding(t1_log::specs::Lines::config_line_of))]
-pub(crate) fn take_config(cursor: &mut Cursor, text: &[u8]) -> Option<Config>
-    ensures limits { IfSome result (λ config. IsTrue (is_in_limits config)) }
-    ensures reads { IfSome result (λ config. Reads text.now cursor.old.at cursor.new.at (config_line_of config)) }
-    ensures finds { (config : ConfigData) (rest : List ℕ) → IsTrue (is_in_limits config) → IsGood cursor.old → drop cursor.old.at text.now ≡ config_line_of config ++ rest → (result ≡ Some config) × Leaves text.now cursor.old cursor.new rest }
+fn read_config(lines: &mut Lines, text: &[u8]) -> Result<Config, LogError>
+    requires { length text.now ≤ 67108864 }
+    ensures limits { IfOk result (λ config. IsTrue (is_in_limits config)) }
+    ensures reads { IfOk result (λ config. Reads text.now lines.old.at lines.new.at (config_line_of config)) }
+    ensures finds { (config : ConfigData) (rest : List ℕ) → IsTrue (is_in_limits config) → drop lines.old.at text.now ≡ config_line_of config ++ rest → IsRead result (λ c. (c ≡ config) × (drop lines.new.at text.now ≡ rest)) }
+    ensures leads { Stands text.now lines.old.at AtConfig → Leads text.now result (λ config. Stands text.now lines.new.at (AtEntry config)) }
 {
-    cursor.word(text, b"config cores ");
-    let cores = cursor.number(text);
-    cursor.word(text, b" strands ");
-    let strands = cursor.number(text);
-    cursor.word(text, b" ram ");
-    let ram = cursor.number(text);
-    cursor.word(text, b" sets ");
-    let sets = cursor.number(text);
-    cursor.word(text, b" budget ");
-    let budget = cursor.number(text);
-    cursor.word(text, b"\n");
-    match config_of(cores, strands, ram, sets, budget) {
-        Some(config) => { if cursor.is_good() { Some(config) } else { None } }
-        None => {
-            cursor.demand(false);
-            None
+    let mut cursor = lines.next();
+    match take_config(&mut cursor, text) {
+        Some(config) => {
+            lines.went(cursor);
+            Ok(config)
         }
+        None => Err(lines.fault(text, Line::Config)),
     }
 }
 
-/// Takes the line of the address where every strand starts.
-#[tactic(auto, unfolding(t1_log::specs::Lines::entry_line_of))]
-pub(crate) fn take_entry(cursor: &mut Cursor, text: &[u8]) -> Option<u64>
-    ensures fits { IfSome result (FitsDigits 10) }
-    ensures reads { IfSome result (λ entry. Reads text.now cursor.old.at cursor.new.at (entry_line_of entry)) }
-    ensures finds { (entry : ℕ) (rest : List ℕ) → FitsDigits 10 entry → IsGood cursor.old → drop cursor.old.at text.now ≡ entry_line_of entry ++ rest → (result ≡ Some entry) × Leaves text.now cursor.old cursor.new rest }
+fn read_entry(lines: &mut Lines, text: &[u8]) -> Result<u64, LogError>
+    requires { length text.now ≤ 67108864 }
+    ensures fits { IfOk result (FitsDigits 10) }
+    ensures reads { IfOk result (λ entry. Reads text.now lines.old.at lines.new.at (entry_line_of entry)) }
+    ensures finds { (entry : ℕ) (rest : List ℕ) → FitsDigits 10 entry → drop lines.old.at text.now ≡ entry_line_of entry ++ rest → IsRead result (λ n. (n ≡ entry) × (drop lines.new.at text.now ≡ rest)) }
+    ensures leads { (config : ConfigData) → Stands text.now lines.old.at (AtEntry config) → Leads text.now result (λ entry. IsHead text.now lines.new.at config entry) }
 {
-    cursor.word(text, b"entry ");
-    let entry = cursor.hex(text, 10);
-    cursor.word(text, b"\n");
-    if cursor.is_good() { Some(entry) } else { None }
+    let mut cursor = lines.next();
+    match take_entry(&mut cursor, text) {
+        Some(entry) => {
+            lines.went(cursor);
+            Ok(entry)
+        }
+        None => Err(lines.fault(text, Line::Entry)),
+    }
 }
 
-/// Takes the line of a block, and writes it: its address, which is above all so far and in the memory,
-/// and its 32 bytes, which are not all zeros. Answers the address.
-pub(crate) fn take_block(
-    cursor: &mut Cursor,
+/// Reads the lines of blocks into a memory of zeros.
+fn read_image(lines: &mut Lines, text: &[u8], ram: &mut [u8]) -> Result<(), LogError>
+    requires text { length text.now ≤ 67108864 }
+    requires blocks { length ram.old % 32 ≡ 0 }
+    requires zeros { (at : ℕ) → get_or ram.old at 0 ≡ 0 }
+    ensures length { length ram.new ≡ length ram.old }
+    ensures reads { IfOk result (λ _. Reads text.now lines.old.at lines.new.at (image_lines_of ram.new)) }
+    ensures finds { (all rest : List ℕ) → length all ≡ length ram.old → length all ≤ 2 ^ 40 → AreBytes all → NextIsNot 109 rest → drop lines.old.at text.now ≡ image_lines_of all ++ rest → IsRead result (λ _. (ram.new ≡ all) × (drop lines.new.at text.now ≡ rest)) }
+    ensures leads { (config : ConfigData) (entry : ℕ) → IsHead text.now lines.old.at config entry → length ram.old ≡ config.ram → Leads text.now result (λ _. HasTraces text.now lines.new.at config (record { entry = entry; ram = ram.new }) []) }
+{
+    let mut least = 0;
+    for _line in 0..text.len() {
+        let mut cursor = lines.next();
+        if cursor.peek(text) != b'm' {
+            return Ok(());
+        }
+        match take_block(&mut cursor, text, least, ram) {
+            Some(addr) => least = addr + 32,
+            None => return Err(lines.fault(text, Line::Block)),
+        }
+        lines.went(cursor);
+    }
+    Ok(())
+}
+
+/// Reads the memory of so many bytes.
+fn read_memory(
+    alloc: Global,
+    lines: &mut Lines,
     text: &[u8],
-    least: usize,
-    ram: &mut [u8],
-) -> Option<usize>
-    requires { length ram.old % 32 ≡ 0 }
-    ensures length { length ram.new ≡ length ram.old }
-    ensures within { IfSome result (λ addr. addr + 32 ≤ length ram.old) }
-    ensures wrote { IfSome result (λ addr. IsWritten text.now cursor.old.at cursor.new.at least ram.old ram.new addr) }
-    ensures finds { (addr : ℕ) (block rest : List ℕ) → IsBlockAt least (length ram.old) addr block → IsGood cursor.old → drop cursor.old.at text.now ≡ block_line_of addr block ++ rest → (result ≡ Some addr) × HasBlock ram.old ram.new addr block × Leaves text.now cursor.old cursor.new rest }
+    bytes: u64,
+) -> Result<Listed<u8>, LogError>
+    requires text { length text.now ≤ 67108864 }
+    requires blocks { bytes % 32 ≡ 0 }
+    ensures length { IfOk result (λ ram. length ram ≡ bytes) }
+    ensures reads { IfOk result (λ ram. Reads text.now lines.old.at lines.new.at (image_lines_of ram)) }
+    ensures finds { (all rest : List ℕ) → length all ≡ bytes → length all ≤ 2 ^ 40 → AreBytes all → NextIsNot 109 rest → drop lines.old.at text.now ≡ image_lines_of all ++ rest → IsRead result (λ ram. (ram ≡ all) × (drop lines.new.at text.now ≡ rest)) }
+    ensures leads { (config : ConfigData) (entry : ℕ) → IsHead text.now lines.old.at config entry → bytes ≡ config.ram → Leads text.now result (λ ram. HasTraces text.now lines.new.at config (record { entry = entry; ram = ram }) []) }
 {
-    cursor.word(text, b"m ");
-    let addr = cursor.hex(text, 10);
-    cursor.word(text, b" ");
-    let block = take_bytes(cursor, text);
-    cursor.word(text, b"\n");
-    if !cursor.is_good() {
-        return None;
-    }
-    if addr % 32 != 0 || addr >= ram.len() as u64 || addr < least as u64 {
-        cursor.demand(false);
-        return None;
-    }
-    if is_blank(&block) {
-        cursor.demand(false);
-        return None;
-    }
-    write_block(ram, addr as usize, &block);
-    Some(addr as usize)
+    let mut ram = Vec::from_elem(alloc, 0u8, bytes as usize)?;
+    read_image(lines, text, ram.as_mut_slice())?;
+    Ok(Listed::from_vec(ram))
 }
 
-fn write_block(ram: &mut [u8], addr: usize, block: &[u8; 32])
-    requires { addr + 32 ≤ length ram.old }
-    ensures length { length ram.new ≡ length ram.old }
-    ensures bytes { (at : ℕ) → get_or ram.new at 0 ≡ (if nat_le addr at && nat_lt at (addr + 32) then get_or block.now (at - addr) 0 else get_or ram.old at 0) }
+/// Reads the lines before those of the strands.
+pub(crate) fn read_head(alloc: Global, lines: &mut Lines, text: &[u8]) -> Result<Head, LogError>
+    requires { length text.now ≤ 67108864 }
+    ensures good { IfOk result (λ head. IsGoodHead head.config head.image) }
+    ensures reads { IfOk result (λ head. Reads text.now lines.old.at lines.new.at (head_lines_of version_line head.config head.image)) }
+    ensures finds { (config : ConfigData) (image : ImageData) (rest : List ℕ) → IsGoodHead config image → AreBytes image.ram → NextIsNot 109 rest → drop lines.old.at text.now ≡ head_lines_of version_line config image ++ rest → IsRead result (λ head. (head.config ≡ config) × (head.image ≡ image) × (drop lines.new.at text.now ≡ rest)) }
+    ensures leads { lines.old.at ≡ 0 → Leads text.now result (λ head. HasTraces text.now lines.new.at head.config head.image []) }
 {
-    for byte in 0..32usize {
-        ram[addr + byte] = block[byte];
-    }
-}
-
-fn is_blank(block: &[u8]) -> bool
-    ensures { result ≡ is_blank block.now }
-{
-    block.iter().all(|byte| *byte == 0)
-}
-
-/// Takes 32 bytes, each in two digits.
-fn take_bytes(cursor: &mut Cursor, text: &[u8]) -> [u8; 32]
-    ensures count { length result ≡ 32 }
-    ensures takes { Takes text.now cursor.old cursor.new (hex_of_bytes result) }
-    ensures finds { (bytes rest : List ℕ) → length bytes ≡ 32 → AreBytes bytes → drop cursor.old.at text.now ≡ hex_of_bytes bytes ++ rest → (result ≡ bytes) × Leaves text.now cursor.old cursor.new rest }
-{
-    let mut block = [0; 32];
-    for byte in 0..32usize {
-        block[byte] = cursor.hex(text, 2) as u8;
-    }
-    block
+    read_version(lines, text)?;
+    let config = read_config(lines, text)?;
+    let entry = read_entry(lines, text)?;
+    let ram = read_memory(alloc, lines, text, config.ram)?;
+    Ok(Head {
+        config,
+        image: Image { entry, ram },
+    })
 }

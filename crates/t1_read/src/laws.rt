@@ -2,7 +2,7 @@
 ghost use Rattle.t1_event.specs.declared.report.Report.{Report};
 ghost use Rattle.t1_event.specs.Printable.{IsPrintableReport};
 ghost use Rattle.t1_check.specs.Checked.{CanBeChecked};
-ghost use Rattle.t1_read.specs.WellFormed.{IsWellFormed};
+ghost use Rattle.t1_take.specs.WellFormed.{IsWellFormed};
 
 /// The order of a well-formed report can be checked.
 pub fn well_formed_can_be_checked()

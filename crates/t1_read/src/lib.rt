@@ -10,22 +10,19 @@
 //! let report = read_log(alloc, text)?;
 //! ```
 //!
-//! A cursor goes along the text and takes fields: words, decimal numbers, hexadecimal digits. It
-//! remembers whether what it has taken has the form of its line so far, and whether the numbers are in
-//! their ranges; a line without the form is a fault of syntax, one with the form and a value out of its
-//! range a fault of range. Contracts say what stands between two places of the text
-//! (`specs/Taken.antt`), and `specs/WellFormed.antt` which reports a log can have.
+//! Each line is taken by a function of `t1_take`, with a cursor that knows whether it is good: of its form
+//! and in its ranges. A line that is not good is the first line at fault. Contracts say what stands between
+//! two places of the text (`specs/Taken.antt` of `t1_take`), and `specs/WellFormed.antt` there which
+//! reports a log can have.
 #![tactic(auto)]
 
-mod commit;
-mod cursor;
 mod error;
 mod head;
-mod item;
+mod lines;
 pub mod laws;
-mod lists;
 mod reader;
 mod strands;
+mod tail;
 #[cfg(test)]
 mod tests;
 

@@ -1,6 +1,6 @@
 //! Logs that are read, their orders, and texts with one fault each.
 ghost use Rattle.std.specs.Prelude.{IfOk};
-ghost use Rattle.t1_read.specs.WellFormed.{IsWellFormed};
+ghost use Rattle.t1_take.specs.WellFormed.{IsWellFormed};
 
 use crate::{LogError, LogKind, read_log};
 use std::alloc::{AllocError, Global};

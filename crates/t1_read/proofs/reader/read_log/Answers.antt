@@ -4,9 +4,9 @@ use Rattle.t1_event.specs.declared.report.Config.{Config}
 use Rattle.t1_log.specs.Lines.{end_line}
 use Rattle.t1_event.specs.declared.trace.Trace.{Trace}
 use Rattle.t1_event.specs.Items.{items_of}
-use Rattle.t1_read.specs.WellFormed.{AreGoodCommits, IsGoodPlace}
+use Rattle.t1_take.specs.WellFormed.{AreGoodCommits, IsGoodPlace}
 use Rattle.t1_read.proofs.Whole.{whole_text}
-use Rattle.t1_read.specs.Items.{IsGoodTrace}
+use Rattle.t1_take.specs.Items.{IsGoodTrace}
 use Rattle.t1_read.proofs.ReportsFound.{after_version, after_config, after_entry, after_image, after_traces, after_log, after_order, text_parts, after_image_next, after_log_next, after_order_next, after_console_next, ram_small, named_all}
 use Rattle.t1_read.proofs.reader.read_log.Goals as goal
 

@@ -4,11 +4,11 @@ use Rattle.std.proofs.lemmas.List.{length-append}
 use Rattle.std.proofs.lemmas.List.Elements.{All-push}
 use Rattle.t1_log.specs.Log.{item_line_of}
 use Rattle.t1_log.specs.Texts.{lines_from}
-use Rattle.t1_read.specs.declared.cursor.Cursor.{Cursor}
-use Rattle.t1_read.specs.Taken.{Reads}
-use Rattle.t1_read.specs.Items.{IsGoodItem}
-use Rattle.t1_read.proofs.ListTexts.{all_none, start_read, one_more_read, reads_between}
-use Rattle.t1_read.proofs.Leaving.{left_start, left_cases, stepped, not_past, item_some, item_first, begun_good, begun_at, peeked, all_next}
+use Rattle.t1_take.specs.declared.cursor.Cursor.{Cursor}
+use Rattle.t1_take.specs.Taken.{Reads}
+use Rattle.t1_take.specs.Items.{IsGoodItem}
+use Rattle.t1_take.proofs.ListTexts.{all_none, start_read, one_more_read, reads_between}
+use Rattle.t1_take.proofs.Leaving.{left_start, left_cases, stepped, not_past, item_some, item_first, begun_good, begun_at, peeked, all_next}
 use Rattle.t1_read.proofs.strands.read_items.Goals as goal
 
 pub loop-number-init : goal.loop-number-init

@@ -2,10 +2,10 @@ use Rattle.std.proofs.Common.{◌≡◌, ◌^◌, ◌≤◌, ◌++◌, ℕ, List
 use Rattle.t1_event.specs.declared.item.Item.{Item}
 use Rattle.t1_log.specs.Texts.{lines_from}
 use Rattle.t1_log.specs.Log.{item_line_of}
-use Rattle.t1_read.specs.Taken.{Reads}
-use Rattle.t1_read.specs.Items.{IsGoodItem}
+use Rattle.t1_take.specs.Taken.{Reads}
+use Rattle.t1_take.specs.Items.{IsGoodItem}
 use Rattle.t1_read.specs.Exact.{NextIsNot}
-use Rattle.t1_read.proofs.Leaving.{IsLeft}
+use Rattle.t1_take.proofs.Leaving.{IsLeft}
 use Rattle.t1_read.proofs.strands.read_items.Given as goal
 
 abbrev pub invariant-loop-number : goal.invariant-loop-number

@@ -5,14 +5,14 @@ use Rattle.t1_event.specs.declared.trace.Ending.{Ending}
 use Rattle.t1_log.specs.Texts.{lines_from}
 use Rattle.t1_log.specs.Log.{item_line_of}
 use Rattle.t1_log.specs.Lines.{ending_line_of}
-use Rattle.t1_read.specs.declared.cursor.Cursor.{Cursor}
-use Rattle.t1_read.specs.declared.item.End.{End}
-use Rattle.t1_read.specs.Taken.{Reads}
-use Rattle.t1_read.proofs.Taking.{reads_then}
-use Rattle.t1_read.proofs.Finding.{next}
-use Rattle.t1_read.proofs.ItemTexts.{trace_text}
-use Rattle.t1_read.proofs.ListTexts.{reads_between}
-use Rattle.t1_read.proofs.Leaving.{begun_good, begun_at}
+use Rattle.t1_take.specs.declared.cursor.Cursor.{Cursor}
+use Rattle.t1_take.specs.declared.item.End.{End}
+use Rattle.t1_take.specs.Taken.{Reads}
+use Rattle.t1_take.proofs.Taking.{reads_then}
+use Rattle.t1_take.proofs.Finding.{next}
+use Rattle.t1_take.proofs.ItemTexts.{trace_text}
+use Rattle.t1_take.proofs.ListTexts.{reads_between}
+use Rattle.t1_take.proofs.Leaving.{begun_good, begun_at}
 use Rattle.t1_read.proofs.StrandsFound.{has_ended, trace_is, end_next}
 use Rattle.t1_read.proofs.strands.read_strand.Goals as goal
 

@@ -3,10 +3,10 @@ use Rattle.std.proofs.lemmas.List.{length-append}
 use Rattle.std.proofs.lemmas.List.Elements.{All-push}
 use Rattle.std.proofs.lemmas.Result.{err_from_is_err_and}
 use Rattle.t1_log.specs.Log.{trace_lines_of}
-use Rattle.t1_read.specs.Items.{IsGoodTrace}
-use Rattle.t1_read.proofs.ListTexts.{all_none, start_read, one_more_read}
+use Rattle.t1_take.specs.Items.{IsGoodTrace}
+use Rattle.t1_take.proofs.ListTexts.{all_none, start_read, one_more_read}
 use Rattle.t1_log.specs.Texts.{lines_from}
-use Rattle.t1_read.proofs.Leaving.{left_start, left_cases, left_next, longer_than, all_next}
+use Rattle.t1_take.proofs.Leaving.{left_start, left_cases, left_next, longer_than, all_next}
 use Rattle.t1_read.proofs.strands.read_strands.Goals as goal
 
 pub loop-strand-init : goal.loop-strand-init

@@ -2,9 +2,9 @@ use Rattle.std.proofs.Common.{◌≡◌, ◌^◌, ◌≤◌, ◌++◌, ℕ, List
 use Rattle.t1_event.specs.declared.trace.Trace.{Trace}
 use Rattle.t1_log.specs.Texts.{lines_from}
 use Rattle.t1_log.specs.Log.{trace_lines_of}
-use Rattle.t1_read.specs.Taken.{Reads}
-use Rattle.t1_read.specs.Items.{IsGoodTrace}
-use Rattle.t1_read.proofs.Leaving.{IsLeft}
+use Rattle.t1_take.specs.Taken.{Reads}
+use Rattle.t1_take.specs.Items.{IsGoodTrace}
+use Rattle.t1_take.proofs.Leaving.{IsLeft}
 use Rattle.t1_read.proofs.strands.read_strands.Given as goal
 
 abbrev pub invariant-loop-strand : goal.invariant-loop-strand

@@ -1,7 +1,0 @@
-use Rattle.std.proofs.Common.{refl, arith}
-use Rattle.t1_read.proofs.Finding.{way_dash}
-use Rattle.t1_read.proofs.commit.take_way.Goals as goal
-
-pub returns-then-takes-clause-finds : goal.returns-then-takes-clause-finds
-returns-then-takes-clause-finds c = λ way rest good after e.
-    way_dash c.args.text.now c.args.cursor.now c.takes.new.self way rest (c.if-takes.ensures.stands refl) (λ more f. (c.if-takes.ensures.finds more (omega arith) f).1) good e

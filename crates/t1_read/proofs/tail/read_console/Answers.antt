@@ -1,0 +1,84 @@
+use Rattle.std.proofs.Common.{◌≡◌, ◌∙◌, ◌++◌, ℕ, List, true, false, take, drop, get_or, length, inl, inr, ap, sym, arith}
+use Rattle.std.proofs.lemmas.List.{length-append, length-drop}
+use Rattle.std.proofs.lemmas.Bool.{eqb-true}
+use Rattle.t1_log.specs.Log.{console_line_of, console_lines_of}
+use Rattle.t1_take.specs.declared.cursor.Cursor.{Cursor}
+use Rattle.t1_take.specs.Taken.{Reads}
+use Rattle.t1_take.proofs.ListTexts.{reads_between}
+use Rattle.t1_take.proofs.ConsoleTexts.{no_run, one_more_run, whole_more}
+use Rattle.t1_take.proofs.Leaving.{begun_good, begun_at, peeked, brought}
+use Rattle.t1_read.proofs.ConsoleFound.{console_start, console_cases, console_over, console_next, console_bytes, console_few, console_first, console_some}
+use Rattle.t1_read.proofs.tail.read_console.Goals as goal
+
+pub loop-line-init : goal.loop-line-init
+loop-line-init c = record { whole = λ _. omega (arith, ap length c.new-console.ensures); reads = no_run c.args.text.now c.args.lines.now.at c.new-console.result c.new-console.ensures; finds = λ all rest bytes other e. (console_start c.args.text.now c.args.lines.now.at c.new-console.result all rest c.new-console.ensures e, omega arith) }
+
+pub loop-line-preserved : goal.loop-line-preserved
+loop-line-preserved c =
+    let text : List ℕ = c.args.text.now in
+    let bs : List ℕ = c.take_console-bytes.result.items in
+    let run = c.take_console-bytes.ensures in
+    let longer : c.append.new.console ≡ c.loop-line.console ++ bs = c.in_ok-append.ensures ∙ ap (λ (x : List ℕ). c.loop-line.console ++ x) c.as_slice.ensures.value in
+    let whole = c.loop-line.invariant.whole c.if-not-full.false in
+    let here : Reads text c.loop-line.lines.at c.went.new.self.at (console_line_of 0 bs) =
+    reads_between text (console_line_of 0 bs) _ _ _ _ (ap (λ (k : Cursor). k.at) c.next-cursor.ensures) (sym c.went.ensures) (run.takes.reads (sym c.is_good.ensures ∙ c.if-not-is_good.false)) in
+    record {
+      whole = λ full. whole_more c.loop-line.console bs c.append.new.console c.len-full.result whole longer c.len-full.ensures.value (eqb-true c.len-full.result 32 full);
+      reads = one_more_run text c.args.lines.now.at c.loop-line.lines.at c.went.new.self.at c.loop-line.console bs c.append.new.console c.loop-line.invariant.reads whole run.some run.few here longer;
+      finds = λ all rest bytes other e. (
+          let so = c.loop-line.invariant.finds all rest bytes other e in
+          let peek = c.peek.ensures ∙ ap (λ (k : Cursor). get_or text k.at 0) c.next-cursor.ensures in
+          elim (console_cases text c.loop-line.lines.at c.loop-line.console all rest c.loop-line.full so.0) [
+            | inl none ↦ absurd (other.other (sym (peeked text c.loop-line.lines.at rest none.1) ∙ (sym peek ∙ c.if-peek-ne107.false)))
+            | inr n ↦
+                let few = console_few n.left n.some in
+                let found = c.take_console-bytes.ensures.finds (take 32 n.left) (console_lines_of (drop 32 n.left) ++ rest) few.0 few.1 (console_bytes c.loop-line.console n.left all bytes n.all_is)
+                (begun_at text c.next-cursor.result c.loop-line.lines.at _ c.next-cursor.ensures n.rest_is) in
+                let left = ap (λ (k : ℕ). drop k text) c.went.ensures ∙ found.1.rest_is in
+                let count = length-append (console_lines_of (drop 32 n.left)) rest in
+                let some = other.some in
+                let on = brought text c.loop-line.lines.at c.went.new.self.at (console_line_of 0 (take 32 n.left)) (console_lines_of (drop 32 n.left) ++ rest) (console_some (take 32 n.left)) (omega (arith, count, some)) n.rest_is left in
+                let low = so.1 in (
+                  console_next text c.loop-line.lines.at c.went.new.self.at c.loop-line.console c.append.new.console all rest bs c.len-full.result n found.0 longer c.len-full.ensures.value left,
+                  omega (arith, on, low),
+                )
+          ]
+          );
+    }
+
+pub returns-then-not-full-clause-finds : goal.returns-then-not-full-clause-finds
+returns-then-not-full-clause-finds c = λ all rest bytes other e.
+    let so = c.loop-line.invariant.finds all rest bytes other e in
+    let over = console_over c.args.text.now c.loop-line.lines.at c.loop-line.console all rest c.loop-line.full so.0 c.if-not-full.true in
+    (sym over.0, over.1)
+
+pub returns-then-peek-ne107-clause-finds : goal.returns-then-peek-ne107-clause-finds
+returns-then-peek-ne107-clause-finds c = λ all rest bytes other e.
+    let so = c.loop-line.invariant.finds all rest bytes other e in
+    let peek = c.peek.ensures ∙ ap (λ (k : Cursor). get_or c.args.text.now k.at 0) c.next-cursor.ensures in
+    elim (console_cases c.args.text.now c.loop-line.lines.at c.loop-line.console all rest c.loop-line.full so.0) [
+      | inl none ↦ (sym none.0, none.1)
+      | inr n ↦ absurd (c.if-peek-ne107.true (peek ∙ (peeked c.args.text.now c.loop-line.lines.at _ n.rest_is ∙ console_first (take 32 n.left) _)))
+    ]
+
+pub returns-then-not-is_good-clause-finds : goal.returns-then-not-is_good-clause-finds
+returns-then-not-is_good-clause-finds c = λ all rest bytes other e.
+    let text : List ℕ = c.args.text.now in
+    let so = c.loop-line.invariant.finds all rest bytes other e in
+    let peek = c.peek.ensures ∙ ap (λ (k : Cursor). get_or text k.at 0) c.next-cursor.ensures in
+    elim (console_cases text c.loop-line.lines.at c.loop-line.console all rest c.loop-line.full so.0) [
+      | inl none ↦ absurd (other.other (sym (peeked text c.loop-line.lines.at rest none.1) ∙ (sym peek ∙ c.if-peek-ne107.false)))
+      | inr n ↦
+          let few = console_few n.left n.some in
+          let found = c.take_console-bytes.ensures.finds (take 32 n.left) (console_lines_of (drop 32 n.left) ++ rest) few.0 few.1 (console_bytes c.loop-line.console n.left all bytes n.all_is)
+          (begun_at text c.next-cursor.result c.loop-line.lines.at _ c.next-cursor.ensures n.rest_is) in
+          absurd (let bad : true ≡ false = sym (found.1.good (begun_good c.next-cursor.result c.loop-line.lines.at c.next-cursor.ensures)) ∙ (sym c.is_good.ensures ∙ c.if-not-is_good.true) in cc)
+    ]
+
+pub returns-clause-finds : goal.returns-clause-finds
+returns-clause-finds c = λ all rest bytes other e.
+    let so = c.loop-line.invariant.finds all rest bytes other e in
+    let n = ap length so.0.rest_is ∙ length-append (console_lines_of so.0.left) rest in
+    let some = other.some in
+    let low = so.1 in
+    absurd (omega (arith, n, length-drop c.loop-line.lines.at c.args.text.now, some, low, c.loop-line-test.false))

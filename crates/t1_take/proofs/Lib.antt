@@ -1,0 +1,12 @@
+pub mod HexDigits
+pub mod Taking
+pub mod Numerals
+pub mod Finding
+pub mod Leaving
+pub mod ItemTexts
+pub mod ListTexts
+pub mod CommitTexts
+pub mod ConsoleTexts
+pub mod ImageTexts
+pub mod HeadTexts
+pub mod ItemsFound
