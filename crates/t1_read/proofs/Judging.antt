@@ -1,5 +1,5 @@
 -- A line that was refused is the first line at fault.
-use Rattle.std.proofs.Common.{◌≡◌, ℕ, suc, ◌+◌, ◌*◌, ◌<◌, ◌≤◌, true, false, eqb, ltb, if◌then◌else◌, List, [], ◌∷◌, ◌++◌, length, take, drop, get_or, codes, refl, sym, ap, subst, ◌∙◌, append_assoc, arith}
+use Rattle.std.proofs.Common.{◌≡◌, ℕ, suc, ◌+◌, ◌*◌, ◌<◌, ◌≤◌, true, false, eqb, ltb, if◌then◌else◌, List, [], ◌∷◌, ◌++◌, length, take, drop, get_or, codes, refl, sym, ap, subst, ◌∙◌, append_assoc, inl, inr, arith}
 use Rattle.std.proofs.lemmas.Bool.{lt-ltb, le-ltb}
 use Rattle.std.proofs.lemmas.List.{append_cancel_right, take-append-drop}
 use Rattle.t1_event.specs.declared.item.Item.{Item}
@@ -16,7 +16,7 @@ use Rattle.t1_read.specs.declared.error.LogKind.{LogKind}
 use Rattle.t1_read.specs.declared.error.LogKind.TheVariants.{Version, Syntax, Range, Unended, OutOfMemory}
 use Rattle.t1_read.specs.declared.error.LogError.{LogError}
 use Rattle.t1_read.specs.Faults.{SoFar, AtConfig, AtEntry, Within, text_so_far, IsOpen, IsClosed, MayFollow, IsGoodLine, feeds, BeginsWith, Cut, IsFaultOf, NamesFault}
-use Rattle.t1_read.specs.Standing.{Stands, IsPast, IsRefused, IsJudged, Ends, Refused}
+use Rattle.t1_read.specs.Standing.{Stands, IsPast, IsKindOfFault, IsJudged, Ends, Refused}
 
 -- the lines so far are the text before the place
 front_is : (text : List ℕ) (at : ℕ) (so : SoFar) → Stands text at so → take at text ≡ text_so_far so
@@ -43,13 +43,13 @@ first_byte kind (byte ∷ front) rest e = e
 
 pub record IsOnly (text : List ℕ) (at : ℕ) (so : SoFar) (kind : Line) : Type 0 where
   pub follows : MayFollow so kind
-  pub begins : (other : Line) (line : List ℕ) → MayFollow so other → IsGoodLine so other line → get_or line 0 0 ≡ letter other
+  pub begins : (other : Line) (one : List ℕ) → MayFollow so other → IsGoodLine so other one → get_or one 0 0 ≡ letter other
   pub only : (other : Line) → MayFollow so other → letter other ≡ get_or text at 0 → other ≡ kind
-  pub bad : (line rest : List ℕ) → IsGoodLine so kind line → drop at text ≡ line ++ rest → ⊥
+  pub bad : (one rest : List ℕ) → IsGoodLine so kind one → drop at text ≡ one ++ rest → ⊥
 
 pub named : (text : List ℕ) (at : ℕ) (so : SoFar) (kind : Line) (error : LogError) → Stands text at so → IsOnly text at so kind → IsJudged text at kind error → NamesFault text error
-named text at so kind error s o (Ends none e n) = subst (IsFaultOf text error.line) (sym e) (Cut so (drop at text) s.good s.reads none, n)
-named text at so kind error s o (Refused first after b n r) = by error.kind r
+named text at so kind error s o (Ends none e n) = inl (subst (IsFaultOf text error.line) (sym e) (Cut so (drop at text) s.good s.reads none, n))
+named text at so kind error s o (Refused first after b n r) = inl (by error.kind r)
   where
     feed : first ++ 10 ∷ after ≡ (first ++ codes "\n") ++ after
     feed = sym (append_assoc first (codes "\n") after)
@@ -64,7 +64,7 @@ named text at so kind error s o (Refused first after b n r) = by error.kind r
     of_good other f g =
         o.only other f (sym (peeked text at ((first ++ codes "\n") ++ after) (b.is ∙ feed) ∙ first_byte other (first ++ codes "\n") after (o.begins other (first ++ codes "\n") f g)))
 
-    by : (k : LogKind) → IsRefused kind first k → IsFaultOf text error.line k
+    by : (k : LogKind) → IsKindOfFault kind first k → IsFaultOf text error.line k
     by Syntax none = record {
       so = so;
       first = first;
@@ -114,29 +114,29 @@ only_entry config line.Last f = absurd f
 
 config_letter : (text : List ℕ) → IsGoodLine AtConfig line.Config text → get_or text 0 0 ≡ 99
 unfolding config_line_of
-config_letter text g = ap (λ (t : List ℕ). get_or t 0 0) g.2.1
+config_letter text g = ap (λ (t : List ℕ). get_or t 0 0) g.2
 
 entry_letter : (config : Config) (text : List ℕ) → IsGoodLine (AtEntry config) line.Entry text → get_or text 0 0 ≡ 101
 unfolding entry_line_of
-entry_letter config text g = ap (λ (t : List ℕ). get_or t 0 0) g.2.1
+entry_letter config text g = ap (λ (t : List ℕ). get_or t 0 0) g.2
 
-pub at_config : (text : List ℕ) (at : ℕ) → ((line rest : List ℕ) → IsGoodLine AtConfig line.Config line → drop at text ≡ line ++ rest → ⊥) → IsOnly text at AtConfig line.Config
+pub at_config : (text : List ℕ) (at : ℕ) → ((one rest : List ℕ) → IsGoodLine AtConfig line.Config one → drop at text ≡ one ++ rest → ⊥) → IsOnly text at AtConfig line.Config
 at_config text at bad = record {
   follows = tt;
-  begins = λ other line f g. (
+  begins = λ other one f g. (
       let e = only_config other f in
-      subst (λ (k : Line). get_or line 0 0 ≡ letter k) (sym e) (config_letter line (subst (λ (k : Line). IsGoodLine AtConfig k line) e g))
+      subst (λ (k : Line). get_or one 0 0 ≡ letter k) (sym e) (config_letter one (subst (λ (k : Line). IsGoodLine AtConfig k one) e g))
       );
   only = λ other f e. only_config other f;
   bad = bad;
 }
 
-pub at_entry : (text : List ℕ) (at : ℕ) (config : Config) → ((line rest : List ℕ) → IsGoodLine (AtEntry config) line.Entry line → drop at text ≡ line ++ rest → ⊥) → IsOnly text at (AtEntry config) line.Entry
+pub at_entry : (text : List ℕ) (at : ℕ) (config : Config) → ((one rest : List ℕ) → IsGoodLine (AtEntry config) line.Entry one → drop at text ≡ one ++ rest → ⊥) → IsOnly text at (AtEntry config) line.Entry
 at_entry text at config bad = record {
   follows = tt;
-  begins = λ other line f g. (
+  begins = λ other one f g. (
       let e = only_entry config other f in
-      subst (λ (k : Line). get_or line 0 0 ≡ letter k) (sym e) (entry_letter config line (subst (λ (k : Line). IsGoodLine (AtEntry config) k line) e g))
+      subst (λ (k : Line). get_or one 0 0 ≡ letter k) (sym e) (entry_letter config one (subst (λ (k : Line). IsGoodLine (AtEntry config) k one) e g))
       );
   only = λ other f e. only_entry config other f;
   bad = bad;
@@ -148,16 +148,16 @@ good_letter : (report : Report) (items : List Item) (other : Line) (text : List 
 unfolding block_line_of item_line_of ending_line_of commit_line_of commit_head_of place_line_of console_line_of
 good_letter report items line.Config text f g = absurd f
 good_letter report items line.Entry text f g = absurd f
-good_letter report items line.Block text f g = ap (λ (t : List ℕ). get_or t 0 0) g.2.2.1
-good_letter report items (line.Item strand number) text f g = ap (λ (t : List ℕ). get_or t 0 0) g.2.1
-good_letter report items (line.End strand) text f g = ap (λ (t : List ℕ). get_or t 0 0) g.2.2.2.2.2.1
-good_letter report items (line.Commit index) text f g = ap (λ (t : List ℕ). get_or t 0 0) g.2.2.1
-good_letter report items line.Order text f g = ap (λ (t : List ℕ). get_or t 0 0) g.2.1
-good_letter report items line.Console text f g = ap (λ (t : List ℕ). get_or t 0 0) g.2.2.2.1
+good_letter report items line.Block text f g = ap (λ (t : List ℕ). get_or t 0 0) g.3
+good_letter report items (line.Item strand number) text f g = ap (λ (t : List ℕ). get_or t 0 0) g.2
+good_letter report items (line.End strand) text f g = ap (λ (t : List ℕ). get_or t 0 0) g.6
+good_letter report items (line.Commit index) text f g = ap (λ (t : List ℕ). get_or t 0 0) g.3
+good_letter report items line.Order text f g = ap (λ (t : List ℕ). get_or t 0 0) g.2
+good_letter report items line.Console text f g = ap (λ (t : List ℕ). get_or t 0 0) g.4
 good_letter report items line.Last text f g = ap (λ (t : List ℕ). get_or t 0 0) g
 
 -- the kind of line that may follow and begins with this letter
-kind_at : Report → List Item → ℕ → Line
+abbrev kind_at : Report → List Item → ℕ → Line
 kind_at report items byte =
     if eqb byte 109 then line.Block else
     if eqb byte 105 then line.Item (length report.traces) (length items) else
@@ -170,16 +170,16 @@ kind_is : (report : Report) (items : List Item) (other : Line) → MayFollow (Wi
 kind_is report items line.Config f = absurd f
 kind_is report items line.Entry f = absurd f
 kind_is report items line.Block f = refl
-kind_is report items (line.Item strand number) f = ap (λ (n : ℕ). line.Item n number) f.1.0 ∙ ap (λ (n : ℕ). line.Item (length report.traces) n) f.1.1
+kind_is report items (line.Item strand number) f = ap (λ (n : ℕ). line.Item n number) f.1 ∙ ap (λ (n : ℕ). line.Item (length report.traces) n) f.2
 kind_is report items (line.End strand) f = rw (lt-ltb (length report.traces) (report.config.cores * report.config.strands) f.0) (ap (λ (n : ℕ). line.End n) f.1)
-kind_is report items (line.Commit index) f = ap (λ (n : ℕ). line.Commit n) f.1.0
+kind_is report items (line.Commit index) f = ap (λ (n : ℕ). line.Commit n) f.1
 kind_is report items line.Order f = refl
 kind_is report items line.Console f = refl
 kind_is report items line.Last f = rw (le-ltb (length report.traces) (report.config.cores * report.config.strands) (omega (arith, f))) refl
 
 -- a line that begins as lines of this kind do
 pub by_letter : (text : List ℕ) (at : ℕ) (report : Report) (items : List Item) (kind : Line) → MayFollow (Within report items) kind → get_or text at 0 ≡ letter kind
-    → ((line rest : List ℕ) → IsGoodLine (Within report items) kind line → drop at text ≡ line ++ rest → ⊥) → IsOnly text at (Within report items) kind
+    → ((one rest : List ℕ) → IsGoodLine (Within report items) kind one → drop at text ≡ one ++ rest → ⊥) → IsOnly text at (Within report items) kind
 by_letter text at report items kind f b bad = record {
   follows = f;
   begins = good_letter report items;
@@ -201,7 +201,7 @@ only_end text at report items strand f m i line.Console g e = absurd (omega (ari
 only_end text at report items strand f m i line.Last g e = absurd (omega (arith, f.0, g))
 
 pub at_end : (text : List ℕ) (at : ℕ) (report : Report) (items : List Item) (strand : ℕ) → MayFollow (Within report items) (line.End strand) → IsPast text at (Within report items) 109 → IsPast text at (Within report items) 105
-    → ((line rest : List ℕ) → IsGoodLine (Within report items) (line.End strand) line → drop at text ≡ line ++ rest → ⊥) → IsOnly text at (Within report items) (line.End strand)
+    → ((one rest : List ℕ) → IsGoodLine (Within report items) (line.End strand) one → drop at text ≡ one ++ rest → ⊥) → IsOnly text at (Within report items) (line.End strand)
 at_end text at report items strand f m i bad = record { follows = f; begins = good_letter report items; only = only_end text at report items strand f m i; bad = bad }
 
 -- the last line, where no commit, no place of the order and no bytes stand next
@@ -218,5 +218,5 @@ only_last text at report items f c o k line.Console g e = absurd (k line.Console
 only_last text at report items f c o k line.Last g e = refl
 
 pub at_last : (text : List ℕ) (at : ℕ) (report : Report) (items : List Item) → IsClosed report.config report.traces → IsPast text at (Within report items) 99 → IsPast text at (Within report items) 111 → IsPast text at (Within report items) 107
-    → ((line rest : List ℕ) → IsGoodLine (Within report items) line.Last line → drop at text ≡ line ++ rest → ⊥) → IsOnly text at (Within report items) line.Last
+    → ((one rest : List ℕ) → IsGoodLine (Within report items) line.Last one → drop at text ≡ one ++ rest → ⊥) → IsOnly text at (Within report items) line.Last
 at_last text at report items f c o k bad = record { follows = f; begins = good_letter report items; only = only_last text at report items f c o k; bad = bad }

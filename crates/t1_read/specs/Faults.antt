@@ -1,6 +1,5 @@
 -- The first line at fault of a text, and what is at fault with it.
-use Rattle.std.specs.Prelude.{ℕ, zero, suc, ◌≡◌, ◌==◌, ◌+◌, ◌*◌, ◌%◌, ◌^◌, ◌<◌, ◌≤◌, ◌⊎◌, ◌++◌, if◌then◌else◌, false, List, [], ◌∷◌, length, codes, All, IsTrue, Some}
-use Rattle.std.proofs.Common.{get_or}
+use Rattle.std.specs.Prelude.{ℕ, suc, ◌≡◌, ◌==◌, ◌*◌, ◌%◌, ◌^◌, ◌<◌, ◌≤◌, ◌⊎◌, ◌++◌, if◌then◌else◌, false, List, [], ◌∷◌, length, codes, get_or, All, IsTrue, Some}
 use Rattle.t1_num.specs.MemoryLaws.{AreBytes}
 use Rattle.t1_event.specs.declared.item.Item.{Item}
 use Rattle.t1_event.specs.declared.commit.Commit.{Commit}
@@ -43,12 +42,17 @@ text_so_far (Within report items) =
     ++ (lines_from (item_line_of (length report.traces)) 0 items
     ++ (lines_from commit_line_of 0 report.log ++ (order_lines_of report.order ++ console_lines_of report.console))))
 
--- strands are left whose ends were not read, or none
+-- strands are left whose ends were not read
 abbrev pub IsOpen : Config → List Trace → Type 0
 IsOpen config traces = length traces < config.cores * config.strands
 
+-- the ends of all strands were read
 abbrev pub IsClosed : Config → List Trace → Type 0
 IsClosed config traces = length traces ≡ config.cores * config.strands
+
+-- neither commits nor a memory order nor a console
+abbrev pub HasNoTail : Report → Type 0
+HasNoTail report = (report.log ≡ []) × (report.order ≡ []) × (report.console ≡ [])
 
 -- all values so far are in their ranges, and commits, order and console come behind all strands
 pub record IsInRange (report : Report) (items : List Item) : Type 0 where
@@ -61,7 +65,7 @@ pub record IsInRange (report : Report) (items : List Item) : Type 0 where
   pub log : AreGoodCommits report.config.cores (items_of report.traces) report.log
   pub order : All (IsGoodPlace (report.config.cores * report.config.strands)) report.order
   pub console : AreBytes report.console
-  pub turn : (IsOpen report.config report.traces × (report.log ≡ []) × (report.order ≡ []) × (report.console ≡ [])) ⊎ (IsClosed report.config report.traces × (items ≡ []))
+  pub turn : (IsOpen report.config report.traces × HasNoTail report) ⊎ (IsClosed report.config report.traces × (items ≡ []))
 
 abbrev pub IsGoodSoFar : SoFar → Type 0
 IsGoodSoFar AtConfig = Unit {0}
@@ -70,8 +74,9 @@ IsGoodSoFar (Within report items) = IsInRange report items
 
 -- ---- the next line
 
--- which kinds of lines may stand next: a block before all items and ends, an item or the end of the strand in
--- turn, then commits by their indices, the order, the console up to a short line, the end
+-- which kinds of lines may stand next: the machine behind the version, the entry behind the machine; then a
+-- block before all items and ends, an item or the end of the strand in turn; behind all strands commits by
+-- their indices, the order, the console up to a short line, the last line
 abbrev pub MayFollow : SoFar → Line → Type 0
 MayFollow AtConfig line.Config = Unit {0}
 MayFollow (AtEntry config) line.Entry = Unit {0}
@@ -89,7 +94,7 @@ pub record IsNewBlock (ram : List ℕ) (addr : ℕ) (block : List ℕ) : Type 0 
   pub count : length block ≡ 32
   pub are_bytes : AreBytes block
   pub some : is_blank block ≡ false
-  pub place : addr % 32 ≡ 0
+  pub aligned : addr % 32 ≡ 0
   pub within : addr < length ram
   pub ascends : (at : ℕ) → addr ≤ at → get_or ram at 0 ≡ 0
 
@@ -140,7 +145,7 @@ pub record IsOfOtherVersion (text : List ℕ) (number : ℕ) : Type 0 where
   pub number_is : number ≡ 1
 
 -- behind good lines stands one that has no form of a kind that may follow
-pub record HasNoForm (text : List ℕ) (number : ℕ) : Type 0 where
+pub record IsFormless (text : List ℕ) (number : ℕ) : Type 0 where
   pub so : SoFar
   pub first : List ℕ
   pub after : List ℕ
@@ -169,11 +174,11 @@ pub data EndsElsewhere (text : List ℕ) : Type 0 where
 -- line `number` is the first at fault, and this is at fault with it
 abbrev pub IsFaultOf : List ℕ → ℕ → LogKind → Type 0
 IsFaultOf text number Version = IsOfOtherVersion text number
-IsFaultOf text number Syntax = HasNoForm text number
+IsFaultOf text number Syntax = IsFormless text number
 IsFaultOf text number Range = IsOutOfRange text number
 IsFaultOf text number Unended = EndsElsewhere text × (number ≡ feeds text)
-IsFaultOf text number OutOfMemory = number ≡ 0
+IsFaultOf text number OutOfMemory = ⊥
 
--- an error names the first fault of a text
+-- an error names the first fault of a text, or memory was wanting
 abbrev pub NamesFault : List ℕ → LogError → Type 0
-NamesFault text error = IsFaultOf text error.line error.kind
+NamesFault text error = IsFaultOf text error.line error.kind ⊎ (error ≡ record { line = 0; kind = OutOfMemory })

@@ -1,12 +1,10 @@
 -- Where the reader of a log stands: good lines so far, and what is left of the text.
-use Rattle.std.specs.Prelude.{ℕ, ◌≡◌, ◌+◌, ◌*◌, ◌≤◌, ◌++◌, List, [], ◌∷◌, length, take, drop, codes, All, IsTrue, Result, MatchResult}
-use Rattle.std.proofs.Common.{get_or}
+use Rattle.std.specs.Prelude.{ℕ, ◌≡◌, ◌+◌, ◌*◌, ◌++◌, List, [], length, take, drop, get_or, All, IsTrue, Result, MatchResult}
 use Rattle.t1_elf.specs.declared.object.Image.{Image}
 use Rattle.t1_event.specs.declared.item.Item.{Item}
 use Rattle.t1_event.specs.declared.trace.Trace.{Trace}
 use Rattle.t1_event.specs.declared.commit.Commit.{Commit}
 use Rattle.t1_event.specs.declared.report.Config.{Config}
-use Rattle.t1_event.specs.declared.report.Report.{Report}
 use Rattle.t1_event.specs.declared.report.Place.{Place}
 use Rattle.t1_event.specs.Printable.{FitsDigits}
 use Rattle.t1_event.specs.Items.{items_of}
@@ -18,7 +16,7 @@ use Rattle.t1_line_forms.specs.declared.line.Line.{Line}
 use Rattle.t1_line_forms.specs.Forms.{HasForm, letter}
 use Rattle.t1_take.specs.Limits.{is_in_limits}
 use Rattle.t1_read.specs.declared.error.LogKind.{LogKind}
-use Rattle.t1_read.specs.declared.error.LogKind.TheVariants.{Version, Syntax, Range, Unended, OutOfMemory}
+use Rattle.t1_read.specs.declared.error.LogKind.TheVariants.{Syntax, Range, Unended}
 use Rattle.t1_read.specs.declared.error.LogError.{LogError}
 use Rattle.t1_read.specs.Faults.{SoFar, AtConfig, AtEntry, Within, text_so_far, IsGoodSoFar, IsClosed, MayFollow, feeds, BeginsWith, NamesFault}
 
@@ -101,10 +99,11 @@ tail_text log order console = lines_from commit_line_of 0 log ++ (order_lines_of
 
 -- ---- a line that was refused
 
-abbrev pub IsRefused : Line → List ℕ → LogKind → Type 0
-IsRefused kind line Range = HasForm kind line
-IsRefused kind line Syntax = HasForm kind line → ⊥
-IsRefused kind line _ = ⊥
+-- it has the form and a value is out of its range, or it has not
+abbrev pub IsKindOfFault : Line → List ℕ → LogKind → Type 0
+IsKindOfFault kind line Range = HasForm kind line
+IsKindOfFault kind line Syntax = HasForm kind line → ⊥
+IsKindOfFault kind line _ = ⊥
 
 pub record BeginsSo (text first : List ℕ) : Type 0 where
   pub after : List ℕ
@@ -113,4 +112,4 @@ pub record BeginsSo (text first : List ℕ) : Type 0 where
 -- no line is whole there, or the first one is refused as one of this kind
 pub data IsJudged (text : List ℕ) (at : ℕ) (kind : Line) (error : LogError) : Type 0 where
   Ends : feeds (drop at text) ≡ 0 → error.kind ≡ Unended → error.line ≡ feeds text → IsJudged text at kind error
-  Refused : (first after : List ℕ) → BeginsWith (drop at text) first after → error.line ≡ feeds (take at text) + 1 → IsRefused kind first error.kind → IsJudged text at kind error
+  Refused : (first after : List ℕ) → BeginsWith (drop at text) first after → error.line ≡ feeds (take at text) + 1 → IsKindOfFault kind first error.kind → IsJudged text at kind error

@@ -1,7 +1,7 @@
 //! Lines of a text: where the next one begins, and what is at fault with one.
 ghost use Rattle.std.specs.Prelude.{◌≡◌, ◌≤◌, length, true, MatchOption};
 ghost use Rattle.t1_read.specs.Faults.{feeds};
-ghost use Rattle.t1_read.specs.Standing.{BeginsSo, IsJudged, IsRefused};
+ghost use Rattle.t1_read.specs.Standing.{BeginsSo, IsJudged, IsKindOfFault};
 
 use crate::error::{LogError, LogKind};
 use t1_line_forms::{Line, has_form};
@@ -51,7 +51,7 @@ impl Lines {
 /// Whether a line that was refused has the form, so that a value is out of its range.
 fn kind_of_fault(line: &[u8], kind: Line) -> LogKind
     requires { length line.now ≤ 67108864 }
-    ensures { IsRefused kind line.now result }
+    ensures { IsKindOfFault kind line.now result }
 {
     if has_form(kind, line) {
         LogKind::Range
