@@ -1,3 +1,6 @@
+pub mod Judging
+pub mod Feeds
+pub mod HeadStands
 pub mod Whole
 pub mod Words
 pub mod Printed

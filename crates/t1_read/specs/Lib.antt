@@ -1,1 +1,3 @@
 pub mod Exact
+pub mod Faults
+pub mod Standing

@@ -35,7 +35,7 @@ pub struct LogError {
 }
 
 impl From<AllocError> for LogError {
-    ghost from_gives = { λ _ e. e.kind ≡ OutOfMemory };
+    ghost from_gives = { λ _ e. e ≡ record { line = 0; kind = OutOfMemory } };
 
     fn from(_error: AllocError) -> LogError {
         LogError {

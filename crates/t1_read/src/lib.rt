@@ -17,9 +17,12 @@
 #![tactic(auto)]
 
 mod error;
+mod head;
+mod lines;
 pub mod laws;
 mod reader;
 mod strands;
+mod tail;
 #[cfg(test)]
 mod tests;
 

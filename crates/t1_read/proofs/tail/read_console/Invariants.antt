@@ -4,7 +4,7 @@ use Rattle.t1_log.specs.Log.{console_lines_of}
 use Rattle.t1_take.specs.Taken.{Reads}
 use Rattle.t1_read.specs.Exact.{NextIsNot}
 use Rattle.t1_read.proofs.ConsoleFound.{ConsoleLeft}
-use Rattle.t1_read.proofs.reader.read_console.Given as goal
+use Rattle.t1_read.proofs.tail.read_console.Given as goal
 
 abbrev pub invariant-loop-line : goal.invariant-loop-line
 invariant-loop-line l = record {

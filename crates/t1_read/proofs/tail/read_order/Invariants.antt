@@ -6,7 +6,7 @@ use Rattle.t1_take.specs.Taken.{Reads}
 use Rattle.t1_read.specs.Exact.{NextIsNot}
 use Rattle.t1_take.specs.WellFormed.{IsGoodPlace}
 use Rattle.t1_take.proofs.Leaving.{IsLeft}
-use Rattle.t1_read.proofs.reader.read_order.Given as goal
+use Rattle.t1_read.proofs.tail.read_order.Given as goal
 
 abbrev pub invariant-loop-line : goal.invariant-loop-line
 invariant-loop-line l = record {

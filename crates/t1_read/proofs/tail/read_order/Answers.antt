@@ -9,7 +9,7 @@ use Rattle.t1_take.specs.Taken.{Reads}
 use Rattle.t1_take.specs.WellFormed.{IsGoodPlace}
 use Rattle.t1_take.proofs.ListTexts.{all_none, start_read, one_more_read, reads_between}
 use Rattle.t1_take.proofs.Leaving.{left_start, left_cases, stepped, not_past, place_some, place_first, begun_good, begun_at, peeked, all_next}
-use Rattle.t1_read.proofs.reader.read_order.Goals as goal
+use Rattle.t1_read.proofs.tail.read_order.Goals as goal
 
 abbrev line : ℕ → Place → List ℕ
 line number place = place_line_of place

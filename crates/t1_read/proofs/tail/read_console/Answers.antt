@@ -8,7 +8,7 @@ use Rattle.t1_take.proofs.ListTexts.{reads_between}
 use Rattle.t1_take.proofs.ConsoleTexts.{no_run, one_more_run, whole_more}
 use Rattle.t1_take.proofs.Leaving.{begun_good, begun_at, peeked, brought}
 use Rattle.t1_read.proofs.ConsoleFound.{console_start, console_cases, console_over, console_next, console_bytes, console_few, console_first, console_some}
-use Rattle.t1_read.proofs.reader.read_console.Goals as goal
+use Rattle.t1_read.proofs.tail.read_console.Goals as goal
 
 pub loop-line-init : goal.loop-line-init
 loop-line-init c = record { whole = λ _. omega (arith, ap length c.new-console.ensures); reads = no_run c.args.text.now c.args.lines.now.at c.new-console.result c.new-console.ensures; finds = λ all rest bytes other e. (console_start c.args.text.now c.args.lines.now.at c.new-console.result all rest c.new-console.ensures e, omega arith) }

@@ -7,7 +7,7 @@ use Rattle.t1_take.specs.Taken.{Reads}
 use Rattle.t1_read.specs.Exact.{NextIsNot}
 use Rattle.t1_take.specs.WellFormed.{IsNamed, AreGoodCommits}
 use Rattle.t1_take.proofs.Leaving.{IsLeft}
-use Rattle.t1_read.proofs.reader.read_commits.Given as goal
+use Rattle.t1_read.proofs.tail.read_commits.Given as goal
 
 abbrev pub invariant-loop-index : goal.invariant-loop-index
 invariant-loop-index l = record {

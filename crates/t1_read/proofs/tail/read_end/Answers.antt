@@ -2,7 +2,7 @@ use Rattle.std.proofs.Common.{◌≡◌, [], length, drop, inl, inr, ap, arith}
 use Rattle.std.proofs.lemmas.List.{length-drop}
 use Rattle.t1_take.specs.declared.cursor.Cursor.{Cursor}
 use Rattle.t1_take.proofs.Leaving.{begun_at}
-use Rattle.t1_read.proofs.reader.read_end.Goals as goal
+use Rattle.t1_read.proofs.tail.read_end.Goals as goal
 
 pub returns-else-lines-text-clause-finds : goal.returns-else-lines-text-clause-finds
 returns-else-lines-text-clause-finds c = λ e.

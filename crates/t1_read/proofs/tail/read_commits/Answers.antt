@@ -12,7 +12,7 @@ use Rattle.t1_take.proofs.CommitTexts.{commits_more}
 use Rattle.t1_log.specs.Texts.{lines_from}
 use Rattle.t1_take.specs.WellFormed.{IsNamed, IsGoodCommit}
 use Rattle.t1_take.proofs.Leaving.{left_start, left_cases, stepped, not_past, commit_some, commit_first, begun_good, begun_at, peeked, all_next, slice_middle}
-use Rattle.t1_read.proofs.reader.read_commits.Goals as goal
+use Rattle.t1_read.proofs.tail.read_commits.Goals as goal
 
 pub loop-index-init : goal.loop-index-init
 loop-index-init c = record {
