@@ -1,0 +1,15 @@
+//! A log says all of its report: no two reports have one text. A law about definitions alone.
+//!
+//! `t1_log::print` writes the text of a report, and `t1_read::read_log` reads it. `specs/Laws.antt` has
+//! the law: two well-formed reports of one text are one report, so a log stands for one report alone,
+//! whoever reads it.
+//!
+//! The text is cut from the left, in one way: `proofs/Fields.antt` cuts words, numbers and digits,
+//! `proofs/Lists.antt` lines that are told from what follows them, `proofs/Items.antt`,
+//! `proofs/Strands.antt` and `proofs/Commits.antt` the lines of each part, `proofs/Images.antt` and
+//! `proofs/Consoles.antt` the bytes, and `proofs/Reports.antt` goes through the parts in order.
+#![tactic(auto)]
+
+pub mod laws;
+#[cfg(test)]
+mod tests;
