@@ -1,16 +1,15 @@
 -- The bytes of memories and consoles, block by block.
-use Rattle.std.proofs.Common.{◌≡◌, ℕ, zero, suc, ◌+◌, ◌*◌, ◌/◌, ◌%◌, ◌^◌, ◌<◌, ◌≤◌, true, false, List, [], ◌∷◌, ◌++◌, length, take, drop, get_or, codes, refl, sym, ap, subst, ◌∙◌, append_assoc, arith}
+use Rattle.std.proofs.Common.{◌≡◌, ℕ, zero, suc, ◌+◌, ◌*◌, ◌/◌, ◌%◌, ◌^◌, ◌<◌, ◌≤◌, List, [], ◌∷◌, ◌++◌, length, take, drop, codes, refl, sym, ap, ◌∙◌, append_assoc, arith}
 use Rattle.std.proofs.lemmas.List.{length-drop, take-append-drop}
 use Rattle.t1_num.specs.MemoryLaws.{AreBytes}
 use Rattle.t1_log.specs.Hex.{digit_of, hex_of, hex_of_bytes}
 use Rattle.t1_log.specs.Log.{console_line_of, console_lines_of}
-use Rattle.t1_log.specs.Texts.{lines_from, blocks_from}
+use Rattle.t1_log.specs.Texts.{blocks_from}
 use Rattle.t1_read.specs.Exact.{NextIsNot}
 use Rattle.t1_read.proofs.Finding.{digit_high}
 use Rattle.t1_read.proofs.ImageFound.{bytes_take, bytes_drop}
-use Rattle.t1_one_text.proofs.Fields.{digits_cut}
+use Rattle.t1_one_text.proofs.Fields.{letter, digits_cut}
 use Rattle.t1_one_text.proofs.Lists.{Each, Cuts, each_byte, lists_cut}
-use Rattle.t1_one_text.proofs.Items.{letter}
 
 -- ---- bytes before a line feed
 

@@ -1,5 +1,5 @@
 -- The lines of commits and of the memory order are cut in one way.
-use Rattle.std.proofs.Common.{◌≡◌, ℕ, suc, ◌+◌, ◌*◌, ◌^◌, ◌<◌, ◌≤◌, List, [], ◌∷◌, ◌++◌, drop, get_or, codes, decimal, Option, Some, None, refl, sym, ap, ◌∙◌, append_assoc, arith}
+use Rattle.std.proofs.Common.{◌≡◌, ℕ, ◌+◌, ◌^◌, ◌<◌, ◌≤◌, List, [], ◌∷◌, ◌++◌, drop, get_or, codes, decimal, Option, Some, None, refl, sym, ap, ◌∙◌, append_assoc, arith}
 use Rattle.std.specs.List.{slice_get}
 use Rattle.std.proofs.lemmas.Option.{same_Some}
 use Rattle.t1_packet.specs.declared.cache.Cache.{Cache}
@@ -17,9 +17,8 @@ use Rattle.t1_read.specs.Taken.{EndsDigits}
 use Rattle.t1_read.specs.WellFormed.{IsGoodKill, IsGoodWay, IsGoodEvicted, IsGoodCommit, IsNamed, IsGoodPlace}
 use Rattle.t1_read.proofs.Finding.{not_dash, hex_no_dash}
 use Rattle.t1_read.proofs.Leaving.{kills_end}
-use Rattle.t1_one_text.proofs.Fields.{past, decimal_cut, number_cut, hex_cut}
+use Rattle.t1_one_text.proofs.Fields.{letter, past, decimal_cut, number_cut, hex_cut}
 use Rattle.t1_one_text.proofs.Lists.{Each, Cuts, each_all}
-use Rattle.t1_one_text.proofs.Items.{letter}
 
 -- ---- kills
 

@@ -1,5 +1,5 @@
 -- Fields are cut from a text in one way.
-use Rattle.std.proofs.Common.{◌≡◌, ℕ, ◌+◌, ◌*◌, ◌^◌, ◌<◌, ◌≤◌, true, false, Bool, if◌then◌else◌, List, [], ◌∷◌, ◌++◌, length, take, drop, codes, decimal, refl, sym, ap, subst, ◌∙◌, append_assoc, arith}
+use Rattle.std.proofs.Common.{◌≡◌, ℕ, ◌*◌, ◌^◌, ◌<◌, ◌≤◌, true, false, Bool, if◌then◌else◌, List, ◌++◌, length, take, drop, get_or, codes, decimal, refl, sym, ap, subst, ◌∙◌, append_assoc, arith}
 use Rattle.std.proofs.lemmas.Fmt.{digits_decimal, digits_value-decimal}
 use Rattle.std.proofs.lemmas.List.{take-append-le, take_all}
 use Rattle.std.proofs.Math.Seq.{drop-append_seam}
@@ -27,6 +27,10 @@ front_cut a b x y n e =
       sym (front a x) ∙ (ap (take (length a)) e ∙ (ap (λ (k : ℕ). take k (b ++ y)) n ∙ front b y)),
       sym (drop-append_seam a x) ∙ (ap (drop (length a)) e ∙ (ap (λ (k : ℕ). drop k (b ++ y)) n ∙ drop-append_seam b y)),
     )
+
+-- the byte at a place
+pub letter : {xs ys : List ℕ} (n : ℕ) → xs ≡ ys → get_or xs n 0 ≡ get_or ys n 0
+letter n e = ap (λ (t : List ℕ). get_or t n 0) e
 
 -- ---- numbers
 

@@ -1,5 +1,5 @@
 -- The lines of items are cut in one way.
-use Rattle.std.proofs.Common.{◌≡◌, ℕ, ◌+◌, ◌*◌, ◌^◌, ◌<◌, ◌≤◌, true, false, Bool, List, [], ◌∷◌, ◌++◌, drop, get_or, codes, decimal, refl, sym, ap, subst, ◌∙◌, append_assoc, arith}
+use Rattle.std.proofs.Common.{◌≡◌, ℕ, ◌^◌, ◌≤◌, true, false, Bool, List, ◌++◌, drop, codes, decimal, refl, sym, ap, subst, ◌∙◌, arith}
 use Rattle.t1_event.specs.declared.item.Item.{Item}
 use Rattle.t1_event.specs.declared.item.How.{How}
 use Rattle.t1_event.specs.declared.item.How.TheVariants as how
@@ -7,76 +7,14 @@ use Rattle.t1_event.specs.declared.item.ItemKind.{ItemKind}
 use Rattle.t1_event.specs.declared.item.ItemKind.TheVariants.{Fetch, Load, Store, Atomic, Membar, Flush}
 use Rattle.t1_event.specs.Kinds.{is_read, is_access, is_changing, IsAccess}
 use Rattle.t1_log.specs.Hex.{hex_of}
-use Rattle.t1_log.specs.Lines.{got_of, put_of, access_fields_of, fields_of_kind}
+use Rattle.t1_log.specs.Lines.{fields_of_kind}
 use Rattle.t1_log.specs.Log.{place_fields_of, item_line_of}
 use Rattle.t1_read.specs.Fields.{access_line_of, kind_line_of}
 use Rattle.t1_read.specs.Items.{IsSizeOf, IsReached, IsValueOf, IsPlaceOf, IsGoodItem}
-use Rattle.t1_read.proofs.ItemsFound.{IsAccessFound, access_fields, is_fetch, is_load, is_store, is_atomic, is_membar, is_flush}
-use Rattle.t1_one_text.proofs.Fields.{past, decimal_cut, number_cut, hex_cut, digits_cut, value_of, SameValues, values_cut}
+use Rattle.t1_read.proofs.ItemsFound.{is_fetch, is_load, is_store, is_atomic, is_membar, is_flush}
+use Rattle.t1_one_text.proofs.Fields.{letter, past, digits_cut}
 use Rattle.t1_one_text.proofs.Lists.{Cuts}
-
--- ---- places
-
-pub letter : {xs ys : List ℕ} (n : ℕ) → xs ≡ ys → get_or xs n 0 ≡ get_or ys n 0
-letter n e = ap (λ (t : List ℕ). get_or t n 0) e
-
-places_cut : (h k : How) (x y : List ℕ) → IsPlaceOf true h → IsPlaceOf true k → place_fields_of h ++ (codes "\n" ++ x) ≡ place_fields_of k ++ (codes "\n" ++ y) → (h ≡ k) × (x ≡ y)
-unfolding place_fields_of
-places_cut how.Unplaced k x y p q e = absurd p
-places_cut (how.Forward t) how.Unplaced x y p q e = absurd q
-places_cut (how.Hit t) how.Unplaced x y p q e = absurd q
-places_cut (how.Commit index seen) how.Unplaced x y p q e = absurd q
-places_cut (how.Forward t) (how.Forward u) x y p q e = (let cut = decimal_cut t u _ _ (omega (arith, p)) (omega (arith, q)) refl refl (ap (drop 3) e) in (ap how.Forward cut.0, ap (drop 1) cut.1))
-places_cut (how.Hit t) (how.Hit u) x y p q e = (let cut = decimal_cut t u _ _ (omega (arith, p)) (omega (arith, q)) refl refl (ap (drop 3) e) in (ap how.Hit cut.0, ap (drop 1) cut.1))
-places_cut (how.Commit i s) (how.Commit j t) x y p q e =
-    let index = number_cut i j _ _ _ _ (omega (arith, p.0)) (omega (arith, q.0)) refl refl (ap (drop 3) e) in
-    let seen = decimal_cut s t _ _ (omega (arith, p.1)) (omega (arith, q.1)) refl refl (ap (drop 1) index.1) in
-    (λ n. how.Commit (index.0 n) (seen.0 n), ap (drop 1) seen.1)
-places_cut (how.Forward t) (how.Hit u) x y p q e = absurd (let l : 70 ≡ 72 = letter 1 e in omega (arith, l))
-places_cut (how.Forward t) (how.Commit j s) x y p q e = absurd (let l : 70 ≡ 77 = letter 1 e in omega (arith, l))
-places_cut (how.Hit t) (how.Forward u) x y p q e = absurd (let l : 72 ≡ 70 = letter 1 e in omega (arith, l))
-places_cut (how.Hit t) (how.Commit j s) x y p q e = absurd (let l : 72 ≡ 77 = letter 1 e in omega (arith, l))
-places_cut (how.Commit i s) (how.Forward u) x y p q e = absurd (let l : 77 ≡ 70 = letter 1 e in omega (arith, l))
-places_cut (how.Commit i s) (how.Hit u) x y p q e = absurd (let l : 77 ≡ 72 = letter 1 e in omega (arith, l))
-
--- ---- accesses
-
-pub record SameAccess (a b : Item) (x y : List ℕ) : Type 0 where
-  pub addr : a.addr ≡ b.addr
-  pub size : a.size ≡ b.size
-  pub got : a.got ≡ b.got
-  pub put : SameValues (is_changing a.kind) (is_changing b.kind) a.put b.put x y
-
-access_cut : (a b : Item) (x y : List ℕ) → IsAccessFound (is_read a.kind) (is_changing a.kind) a → IsAccessFound (is_read b.kind) (is_changing b.kind) b
-    → access_fields_of a ++ x ≡ access_fields_of b ++ y → SameAccess a b x y
-unfolding access_fields_of got_of put_of
-access_cut a b x y f g e =
-    let few = f.few in
-    let less = g.few in
-    let addr = digits_cut 10 a.addr b.addr _ _ _ _ f.fields.addr g.fields.addr e in
-    let size = number_cut a.size b.size _ _ _ _ (omega (arith, few)) (omega (arith, less)) refl refl (ap (drop 1) addr.1) in
-    let got = values_cut (is_read a.kind) (is_read b.kind) a.size b.size a.got b.got _ _ size.0 f.some (f.fields.got few) (g.fields.got less)
-    (sym (append_assoc (value_of (is_read a.kind) a.size a.got) (codes " " ++ value_of (is_changing a.kind) a.size a.put) x)
-    ∙ (ap (drop 1) size.1 ∙ append_assoc (value_of (is_read b.kind) b.size b.got) (codes " " ++ value_of (is_changing b.kind) b.size b.put) y)) in
-    record {
-      addr = addr.0;
-      size = size.0;
-      got = got.value;
-      put = values_cut (is_changing a.kind) (is_changing b.kind) a.size b.size a.put b.put x y size.0 f.some (f.fields.put few) (g.fields.put less) (ap (drop 1) got.rest);
-    }
-
--- accesses whose kinds are one, where they both write or not
-access_same : (ram : ℕ) (a b : Item) (x y : List ℕ) → ram ≤ 2 ^ 40 → IsGoodItem ram a → IsGoodItem ram b → IsAccess a.kind → IsAccess b.kind → (is_changing a.kind ≡ is_changing b.kind → a.kind ≡ b.kind)
-    → access_line_of a ++ x ≡ access_line_of b ++ y → (a ≡ b) × (x ≡ y)
-access_same ram a b x y small f g p q kind e =
-    let found = access_fields ram a (is_read a.kind) (is_changing a.kind) small f p refl refl in
-    let other = access_fields ram b (is_read b.kind) (is_changing b.kind) small g q refl refl in
-    let same = access_cut a b ((place_fields_of a.how ++ codes "\n") ++ x) ((place_fields_of b.how ++ codes "\n") ++ y) found other
-    (sym (append_assoc (access_fields_of a) (place_fields_of a.how ++ codes "\n") x) ∙ (e ∙ append_assoc (access_fields_of b) (place_fields_of b.how ++ codes "\n") y)) in
-    let place = places_cut a.how b.how x y found.fields.place other.fields.place
-    (sym (append_assoc (place_fields_of a.how) (codes "\n") x) ∙ (same.put.rest ∙ append_assoc (place_fields_of b.how) (codes "\n") y)) in
-    let k = kind same.put.has in
-    (λ i. record { kind = k i; addr = same.addr i; size = same.size i; got = same.got i; put = same.put.value i; how = place.0 i }, place.1)
+use Rattle.t1_one_text.proofs.Accesses.{access_same}
 
 -- ---- barriers
 
@@ -87,18 +25,18 @@ pub record IsBlank (item : Item) : Type 0 where
   pub put : item.put ≡ 0
   pub place : item.how ≡ how.Unplaced
 
-blank_of : (ram : ℕ) (item : Item) (k : ItemKind) → IsGoodItem ram item → item.kind ≡ k → is_access k ≡ false → IsReached ram k item.addr → IsValueOf (is_read k) item.size item.got → IsValueOf (is_changing k) item.size item.put
+blank_of : (ram : ℕ) (item : Item) (k : ItemKind) → is_access k ≡ false → IsReached ram k item.addr → IsValueOf (is_read k) item.size item.got → IsValueOf (is_changing k) item.size item.put
     → IsPlaceOf (is_access k) item.how → IsBlank item
-blank_of ram item Membar good f none a g p h = record { addr = a; got = g; put = p; place = h }
-blank_of ram item Flush good f none a g p h = record { addr = a; got = g; put = p; place = h }
-blank_of ram item Fetch good f none a g p h = absurd (let bad : true ≡ false = none in cc)
-blank_of ram item Load good f none a g p h = absurd (let bad : true ≡ false = none in cc)
-blank_of ram item Store good f none a g p h = absurd (let bad : true ≡ false = none in cc)
-blank_of ram item (Atomic wrote) good f none a g p h = absurd (let bad : true ≡ false = none in cc)
+blank_of ram item Membar none a g p h = record { addr = a; got = g; put = p; place = h }
+blank_of ram item Flush none a g p h = record { addr = a; got = g; put = p; place = h }
+blank_of ram item Fetch none a g p h = absurd (let bad : true ≡ false = none in cc)
+blank_of ram item Load none a g p h = absurd (let bad : true ≡ false = none in cc)
+blank_of ram item Store none a g p h = absurd (let bad : true ≡ false = none in cc)
+blank_of ram item (Atomic wrote) none a g p h = absurd (let bad : true ≡ false = none in cc)
 
-is_blank_item : (ram : ℕ) (item : Item) (k : ItemKind) → IsGoodItem ram item → item.kind ≡ k → is_access k ≡ false → IsBlank item
-is_blank_item ram item k good f none =
-    blank_of ram item k good f none (subst (λ (l : ItemKind). IsReached ram l item.addr) f good.reached) (subst (λ (l : ItemKind). IsValueOf (is_read l) item.size item.got) f good.got)
+barrier_blank : (ram : ℕ) (item : Item) (k : ItemKind) → IsGoodItem ram item → item.kind ≡ k → is_access k ≡ false → IsBlank item
+barrier_blank ram item k good f none =
+    blank_of ram item k none (subst (λ (l : ItemKind). IsReached ram l item.addr) f good.reached) (subst (λ (l : ItemKind). IsValueOf (is_read l) item.size item.got) f good.got)
     (subst (λ (l : ItemKind). IsValueOf (is_changing l) item.size item.put) f good.put) (subst (λ (l : ItemKind). IsPlaceOf (is_access l) item.how) f good.place)
 
 barrier_same : (a b : Item) → IsBlank a → IsBlank b → a.kind ≡ b.kind → a.size ≡ b.size → a ≡ b
@@ -190,10 +128,10 @@ atomic_cut ram a b x y wrote small f g p e =
 
 membar_cut : (ram : ℕ) (a b : Item) (x y : List ℕ) → IsGoodItem ram a → IsGoodItem ram b → a.kind ≡ Membar → IsCut a b x y
 membar_cut ram a b x y f g p e =
-    let m = is_blank_item ram a Membar f p refl in
+    let m = barrier_blank ram a Membar f p refl in
     let left : kind_line_of a ++ x ≡ codes "membar " ++ ((hex_of 2 a.size ++ codes "\n") ++ x) = ap (λ (t : List ℕ). t ++ x) (membar_line a p m.place) in
     let q = is_membar b y ((hex_of 2 a.size ++ codes "\n") ++ x) (sym e ∙ left) in
-    let n = is_blank_item ram b Membar g q refl in
+    let n = barrier_blank ram b Membar g q refl in
     let right : kind_line_of b ++ y ≡ codes "membar " ++ ((hex_of 2 b.size ++ codes "\n") ++ y) = ap (λ (t : List ℕ). t ++ y) (membar_line b q n.place) in
     let few : a.size ≤ 0x7f = subst (λ (k : ItemKind). IsSizeOf k a.size) p f.size in
     let less : b.size ≤ 0x7f = subst (λ (k : ItemKind). IsSizeOf k b.size) q g.size in
@@ -202,7 +140,7 @@ membar_cut ram a b x y f g p e =
 
 flush_cut : (ram : ℕ) (a b : Item) (x y : List ℕ) → IsGoodItem ram a → IsGoodItem ram b → a.kind ≡ Flush → IsCut a b x y
 flush_cut ram a b x y f g p e =
-    let m = is_blank_item ram a Flush f p refl in
+    let m = barrier_blank ram a Flush f p refl in
     let left : kind_line_of a ++ x ≡ codes "flush" ++ (codes "\n" ++ x) = ap (λ (t : List ℕ). t ++ x) (flush_line a p m.place) in
     let q = is_flush b y (codes "flush" ++ (codes "\n" ++ x)) (sym left ∙ e)
     (λ more d. (let l : 108 ≡ 101 = letter 1 d in omega (arith, l)))
@@ -210,7 +148,7 @@ flush_cut ram a b x y f g p e =
     (λ more d. (let l : 102 ≡ 115 = letter 0 d in omega (arith, l)))
     (λ more d. (let l : 102 ≡ 97 = letter 0 d in omega (arith, l)))
     (λ more d. (let l : 102 ≡ 109 = letter 0 d in omega (arith, l))) in
-    let n = is_blank_item ram b Flush g q refl in
+    let n = barrier_blank ram b Flush g q refl in
     let right : kind_line_of b ++ y ≡ codes "flush" ++ (codes "\n" ++ y) = ap (λ (t : List ℕ). t ++ y) (flush_line b q n.place) in
     let none : a.size ≡ 0 = subst (λ (k : ItemKind). IsSizeOf k a.size) p f.size in
     let zero : b.size ≡ 0 = subst (λ (k : ItemKind). IsSizeOf k b.size) q g.size in

@@ -1,5 +1,6 @@
 mod Fields
 mod Lists
+mod Accesses
 mod Items
 mod Strands
 mod Commits

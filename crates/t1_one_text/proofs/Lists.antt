@@ -1,5 +1,5 @@
 -- Lists whose lines are told from what follows them.
-use Rattle.std.proofs.Common.{◌≡◌, ℕ, zero, suc, ◌+◌, ◌<◌, List, [], ◌∷◌, ◌++◌, length, get_or, All, Some, refl, sym, ap, subst, ◌∙◌, append_assoc, arith}
+use Rattle.std.proofs.Common.{◌≡◌, ℕ, suc, ◌+◌, ◌<◌, List, [], ◌∷◌, ◌++◌, length, All, Some, refl, sym, subst, ◌∙◌, append_assoc, arith}
 use Rattle.std.specs.List.{slice_get}
 use Rattle.t1_num.specs.MemoryLaws.{AreBytes}
 use Rattle.t1_log.specs.Texts.{lines_from}
@@ -18,12 +18,15 @@ pub each_byte : (n : ℕ) (xs : List ℕ) → AreBytes xs → Each (λ (k byte :
 each_byte n [] a = tt
 each_byte n (x ∷ xs) a = (a 0, each_byte (n + 1) xs (λ i. a (suc i)))
 
-pub each_at : {A : Type 0} (P : ℕ → A → Type 0) (n : ℕ) (xs : List A) → ((i : ℕ) (x : A) → slice_get xs i ≡ Some x → P (n + i) x) → Each P n xs
+each_at : {A : Type 0} (P : ℕ → A → Type 0) (n : ℕ) (xs : List A) → ((i : ℕ) (x : A) → slice_get xs i ≡ Some x → P (n + i) x) → Each P n xs
 each_at P n [] f = tt
 each_at {A = A} P n (x ∷ xs) f = (
   (let z : n + 0 ≡ n = omega arith in subst (λ (k : ℕ). P k x) z (f 0 x refl)),
   each_at P (n + 1) xs (λ i y e. (let s : n + suc i ≡ n + 1 + i = omega arith in subst (λ (k : ℕ). P k y) s (f (suc i) y e))),
 )
+
+pub each_numbered : {A : Type 0} (P : ℕ → A → Type 0) (xs : List A) → ((i : ℕ) (x : A) → slice_get xs i ≡ Some x → P i x) → Each P 0 xs
+each_numbered P xs f = each_at P 0 xs (λ i x e. (let z : i ≡ 0 + i = omega arith in subst (λ (k : ℕ). P k x) z (f i x e)))
 
 pub each_both : {A : Type 0} (P Q : ℕ → A → Type 0) (n : ℕ) (xs : List A) → Each P n xs → Each Q n xs → Each (λ (k : ℕ) (x : A). P k x × Q k x) n xs
 each_both P Q n [] p q = tt

@@ -1,28 +1,23 @@
 -- Two reports of one text, part by part.
-use Rattle.std.proofs.Common.{◌≡◌, ℕ, ◌+◌, ◌*◌, ◌%◌, ◌^◌, ◌<◌, ◌≤◌, List, [], ◌++◌, length, drop, All, codes, decimal, IsTrue, refl, sym, ap, subst, ◌∙◌, append_assoc, arith}
-use Rattle.std.proofs.lemmas.Bool.{and_parts, leb-true, eqb-true}
-use Rattle.std.proofs.Math.Nat.{mul-le-mul}
-use Rattle.t1_event.specs.declared.commit.Commit.{Commit}
+use Rattle.std.proofs.Common.{◌≡◌, ℕ, ◌*◌, ◌^◌, ◌<◌, List, ◌++◌, length, drop, All, codes, refl, sym, ap, subst, ◌∙◌, arith}
 use Rattle.t1_event.specs.declared.item.Item.{Item}
 use Rattle.t1_event.specs.declared.report.Config.{Config}
 use Rattle.t1_event.specs.declared.report.Place.{Place}
 use Rattle.t1_event.specs.declared.report.Report.{Report}
 use Rattle.t1_event.specs.declared.trace.Trace.{Trace}
-use Rattle.t1_elf.specs.declared.object.Image.{Image}
 use Rattle.t1_event.specs.Items.{items_of}
 use Rattle.t1_event.specs.Printable.{FitsDigits}
 use Rattle.t1_log.specs.Lines.{config_line_of, entry_line_of, place_line_of, end_line}
-use Rattle.t1_log.specs.Texts.{lines_from, image_lines_of, order_lines_of}
-use Rattle.t1_log.specs.Log.{version_line, trace_lines_of, commit_line_of, console_lines_of, text_of}
+use Rattle.t1_log.specs.Log.{version_line, trace_lines_of, commit_line_of, text_of}
 use Rattle.t1_read.specs.Exact.{NextIsNot, HasBytes}
-use Rattle.t1_read.specs.Limits.{is_in_limits}
 use Rattle.t1_read.specs.Items.{IsGoodTrace}
 use Rattle.t1_read.specs.WellFormed.{AreGoodCommits, IsNamed, IsGoodPlace, IsWellFormed}
 use Rattle.t1_read.proofs.HeadTexts.{AreSmall, numbers_small}
+use Rattle.t1_read.proofs.Printed.{is_printable}
 use Rattle.t1_read.proofs.Leaving.{place_first, commit_first}
-use Rattle.t1_read.proofs.ReportsFound.{after_order, after_log, after_traces, after_image, after_entry, after_config, after_version, text_parts, after_console_next, after_order_next, after_log_next, after_image_next, named_all}
+use Rattle.t1_read.proofs.ReportsFound.{after_order, after_log, after_traces, after_image, after_entry, after_config, after_version, text_parts, after_console_next, after_order_next, after_log_next, after_image_next, ram_small, named_all}
 use Rattle.t1_one_text.proofs.Fields.{same_front, number_cut, digits_cut}
-use Rattle.t1_one_text.proofs.Lists.{each_all, each_at, each_both, lists_cut, counted_cut}
+use Rattle.t1_one_text.proofs.Lists.{each_all, each_numbered, each_both, lists_cut, counted_cut}
 use Rattle.t1_one_text.proofs.Strands.{traces_cut}
 use Rattle.t1_one_text.proofs.Commits.{IsCommit, commits_cut, order_cut}
 use Rattle.t1_one_text.proofs.Images.{images_cut}
@@ -45,25 +40,6 @@ entry_cut : (a b : ℕ) (x y : List ℕ) → FitsDigits 10 a → FitsDigits 10 b
 unfolding entry_line_of
 entry_cut a b x y l m e = (let cut = digits_cut 10 a b (codes "\n") (codes "\n") x y l m (ap (drop 6) e) in (cut.0, ap (drop 1) cut.1))
 
--- ---- limits
-
-pub record Bounds (config : Config) : Type 0 where
-  pub strands : config.cores * config.strands < 2 ^ 32
-  pub ram : config.ram ≤ 2 ^ 40
-  pub whole : config.ram % 32 ≡ 0
-
-bounds : (config : Config) → IsTrue (is_in_limits config) → Bounds config
-bounds config limits =
-    let all = and_parts _ _ limits in
-    let cores : config.cores ≤ 8 = leb-true _ _ (and_parts _ _ all.0).1 in
-    let rest = and_parts _ _ all.1 in
-    let strands : config.strands ≤ 4 = leb-true _ _ (and_parts _ _ rest.0).1 in
-    let most : config.cores * config.strands ≤ 8 * 4 = mul-le-mul cores strands in
-    let memory = and_parts _ _ (and_parts _ _ (and_parts _ _ rest.1).0).1 in
-    let ram : config.ram ≤ 268435456 = leb-true _ _ memory.0 in
-    let steps : config.ram % 65536 ≡ 0 = eqb-true _ _ memory.1 in
-    record { strands = omega (arith, most); ram = omega (arith, ram); whole = omega (arith, steps) }
-
 -- ---- part by part
 
 pub record SameHead (one other : Report) : Type 0 where
@@ -76,12 +52,9 @@ heads_same one other w b v c e =
     let versions = same_front version_line (after_version one) (after_version other) (sym (text_parts one) ∙ (e ∙ text_parts other)) in
     let config = config_cut one.config other.config (after_config one) (after_config other) (numbers_small one.config w.limits) (numbers_small other.config v.limits) versions in
     let entry = entry_cut one.image.entry other.image.entry (after_entry one) (after_entry other) w.entry v.entry config.1 in
-    let limits = bounds one.config w.limits in
-    let size = w.image in
-    let whole = limits.whole in
-    let most = limits.ram in
+    let printable = is_printable one w in
     let length_is : length one.image.ram ≡ length other.image.ram = w.image ∙ (ap (λ (k : Config). k.ram) config.0 ∙ sym v.image) in
-    let image = images_cut one.image.ram other.image.ram (after_image one) (after_image other) length_is (omega (arith, size, whole)) (omega (arith, size, most)) b.image c.image
+    let image = images_cut one.image.ram other.image.ram (after_image one) (after_image other) length_is printable.blocks printable.image b.image c.image
     (after_image_next one w) (after_image_next other v) entry.1 in
     record { config = config.0; image = λ i. record { entry = entry.0 i; ram = image.0 i }; rest = image.1 }
 
@@ -94,7 +67,7 @@ traces_same one other w v h =
     let ram : ℕ = one.config.ram in
     let number : length one.traces ≡ length other.traces = w.number ∙ (ap (λ (k : Config). k.cores * k.strands) h.config ∙ sym v.number) in
     let others = subst (λ (k : ℕ). All (IsGoodTrace k) other.traces) (ap (λ (k : Config). k.ram) (sym h.config)) v.traces in
-    let cut = counted_cut trace_lines_of (λ (k : ℕ) (t : Trace). IsGoodTrace ram t) (traces_cut ram (bounds one.config w.limits).ram) 0 one.traces other.traces (after_traces one) (after_traces other)
+    let cut = counted_cut trace_lines_of (λ (k : ℕ) (t : Trace). IsGoodTrace ram t) (traces_cut ram (ram_small one w)) 0 one.traces other.traces (after_traces one) (after_traces other)
     (each_all (IsGoodTrace ram) 0 one.traces w.traces) (each_all (IsGoodTrace ram) 0 other.traces others) number h.rest in
     record { traces = cut.0; rest = cut.1 }
 
@@ -110,8 +83,8 @@ log_same one other w v h t =
     (subst (λ (ts : List (List Item)). AreGoodCommits other.config.cores ts other.log) (ap items_of (sym t.traces)) v.log) in
     let cut = lists_cut commit_line_of (IsCommit cores traces) (NextIsNot 99) (commits_cut cores traces (numbers_small one.config w.limits).cores) (λ n commit x s. s.other (commit_first n commit x)) 0 one.log other.log
     (after_log one) (after_log other)
-    (each_both _ _ 0 one.log (each_at _ 0 one.log w.log) (each_all IsNamed 0 one.log (named_all one w)))
-    (each_both _ _ 0 other.log (each_at _ 0 other.log others) (each_all IsNamed 0 other.log (named_all other v)))
+    (each_both _ _ 0 one.log (each_numbered _ one.log w.log) (each_all IsNamed 0 one.log (named_all one w)))
+    (each_both _ _ 0 other.log (each_numbered _ other.log others) (each_all IsNamed 0 other.log (named_all other v)))
     (after_log_next one) (after_log_next other) t.rest in
     record { log = cut.0; rest = cut.1 }
 
@@ -122,8 +95,11 @@ pub record SameOrder (one other : Report) : Type 0 where
 order_same : (one other : Report) → IsWellFormed one → IsWellFormed other → SameHead one other → SameLog one other → SameOrder one other
 order_same one other w v h l =
     let strands : ℕ = one.config.cores * one.config.strands in
+    let number = w.number in
+    let most = (is_printable one w).strands in
+    let few : strands < 2 ^ 32 = omega (arith, number, most) in
     let others = subst (λ (k : Config). All (IsGoodPlace (k.cores * k.strands)) other.order) (sym h.config) v.order in
-    let cut = lists_cut (λ (n : ℕ) (place : Place). place_line_of place) (λ (n : ℕ) (place : Place). IsGoodPlace strands place) (NextIsNot 111) (order_cut strands (bounds one.config w.limits).strands)
+    let cut = lists_cut (λ (n : ℕ) (place : Place). place_line_of place) (λ (n : ℕ) (place : Place). IsGoodPlace strands place) (NextIsNot 111) (order_cut strands few)
     (λ n place x s. s.other (place_first place x)) 0 one.order other.order (after_order one) (after_order other)
     (each_all (IsGoodPlace strands) 0 one.order w.order) (each_all (IsGoodPlace strands) 0 other.order others) (after_order_next one) (after_order_next other) l.rest in
     record { order = cut.0; rest = cut.1 }

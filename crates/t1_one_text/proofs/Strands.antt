@@ -1,5 +1,5 @@
 -- The lines of strands are cut in one way.
-use Rattle.std.proofs.Common.{◌≡◌, ℕ, ◌+◌, ◌*◌, ◌^◌, ◌<◌, ◌≤◌, List, [], ◌∷◌, ◌++◌, drop, get_or, codes, decimal, Option, Some, refl, sym, ap, ◌∙◌, append_assoc, arith}
+use Rattle.std.proofs.Common.{◌≡◌, ℕ, ◌^◌, ◌<◌, ◌≤◌, List, ◌++◌, drop, codes, decimal, Some, refl, sym, ap, ◌∙◌, append_assoc, arith}
 use Rattle.t1_event.specs.declared.item.Item.{Item}
 use Rattle.t1_event.specs.declared.trace.Ending.{Ending}
 use Rattle.t1_event.specs.declared.trace.Ending.TheVariants.{Halted, Fault, Spent}
@@ -12,9 +12,9 @@ use Rattle.t1_read.specs.Exact.{NextIsNot}
 use Rattle.t1_read.specs.Items.{IsGoodItem, IsGoodEnd, IsGoodTrace}
 use Rattle.t1_read.proofs.Leaving.{item_first}
 use Rattle.t1_read.proofs.StrandsFound.{has_ended, trace_is, end_next}
-use Rattle.t1_one_text.proofs.Fields.{past, number_cut, hex_cut, digits_cut}
+use Rattle.t1_one_text.proofs.Fields.{letter, past, number_cut, hex_cut, digits_cut}
 use Rattle.t1_one_text.proofs.Lists.{Cuts, each_all, lists_cut}
-use Rattle.t1_one_text.proofs.Items.{letter, items_cut}
+use Rattle.t1_one_text.proofs.Items.{items_cut}
 
 -- ---- ends
 

@@ -5,9 +5,10 @@
 //! whoever reads it.
 //!
 //! The text is cut from the left, in one way: `proofs/Fields.antt` cuts words, numbers and digits,
-//! `proofs/Lists.antt` lines that are told from what follows them, `proofs/Items.antt`,
-//! `proofs/Strands.antt` and `proofs/Commits.antt` the lines of each part, `proofs/Images.antt` and
-//! `proofs/Consoles.antt` the bytes, and `proofs/Reports.antt` goes through the parts in order.
+//! `proofs/Lists.antt` lines that are told from what follows them, `proofs/Accesses.antt`,
+//! `proofs/Items.antt`, `proofs/Strands.antt` and `proofs/Commits.antt` the lines of each part,
+//! `proofs/Bytes.antt` and `proofs/Images.antt` the console and the memory, and `proofs/Reports.antt`
+//! goes through the parts in order.
 #![tactic(auto)]
 
 pub mod laws;
