@@ -1,8 +1,7 @@
-//! A log says all of its report: no two reports have one text. A law about definitions alone.
+//! A log says all of its report: no two well-formed reports have one text. A law about definitions alone.
 //!
 //! `t1_log::print` writes the text of a report, and `t1_read::read_log` reads it. `specs/Laws.antt` has
-//! the law: two well-formed reports of one text are one report, so a log stands for one report alone,
-//! whoever reads it.
+//! the law: two well-formed reports of one text, whose memories and consoles hold bytes, are one.
 //!
 //! The text is cut from the left, in one way: `proofs/Fields.antt` cuts words, numbers and digits,
 //! `proofs/Lists.antt` lines that are told from what follows them, `proofs/Accesses.antt`,
