@@ -1,0 +1,9 @@
+mod Fields
+mod Lists
+mod Accesses
+mod Items
+mod Strands
+mod Commits
+mod Bytes
+mod Images
+mod Reports
