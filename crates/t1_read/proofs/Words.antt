@@ -7,11 +7,8 @@ use Rattle.std.proofs.lemmas.Option.{slice_get_within, get_or_from_slice_get}
 use Rattle.std.specs.List.{slice_get}
 use Rattle.t1_num.specs.Memory.{IsSize}
 use Rattle.t1_event.specs.declared.item.Item.{Item}
-use Rattle.t1_event.specs.declared.item.ItemKind.{ItemKind}
-use Rattle.t1_event.specs.declared.item.ItemKind.TheVariants.{Fetch, Load, Store, Atomic, Membar, Flush}
 use Rattle.t1_event.specs.declared.trace.Trace.{Trace}
 use Rattle.t1_event.specs.declared.report.Report.{Report}
-use Rattle.t1_event.specs.Kinds.{IsAccess}
 use Rattle.t1_event.specs.Items.{items_of}
 use Rattle.t1_check.specs.Checked.{LiesInWord, CanBeChecked}
 use Rattle.t1_take.specs.Items.{IsGoodItem}

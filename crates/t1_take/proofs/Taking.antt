@@ -1,10 +1,10 @@
 -- Fields that are taken one after another.
-use Rattle.std.proofs.Common.{◌≡◌, ℕ, ◌+◌, ◌++◌, true, false, List, [], length, drop, take, Option, Some, None, refl, sym, ap, subst, ◌∙◌, append_assoc}
+use Rattle.std.proofs.Common.{◌≡◌, ℕ, ◌+◌, ◌++◌, List, [], length, drop, take, Option, Some, None, refl, sym, ap, subst, ◌∙◌, append_assoc}
 use Rattle.std.proofs.lemmas.List.{drop-drop, take-append-drop}
 use Rattle.std.proofs.Math.Seq.{drop-append_seam}
 use Rattle.std.specs.Option.{IfSome}
 use Rattle.t1_take.specs.declared.cursor.Cursor.{Cursor}
-use Rattle.t1_take.specs.Taken.{Reads, IsGood, Takes}
+use Rattle.t1_take.specs.Taken.{Reads, Takes}
 
 pub reads_then : (text : List ℕ) (a b c : ℕ) (p q : List ℕ) → Reads text a b p → Reads text b c q → Reads text a c (p ++ q)
 reads_then text a b c p q x y = x ∙ (ap (λ r. p ++ r) y ∙ sym (append_assoc p q (drop c text)))
