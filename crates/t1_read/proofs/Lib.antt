@@ -5,6 +5,7 @@ pub mod Whole
 pub mod Words
 pub mod Printed
 pub mod StrandsFound
+pub mod StrandsStand
 pub mod ImageFound
 pub mod ConsoleFound
 pub mod ReportsFound

@@ -12,7 +12,8 @@ abbrev pub invariant-loop-number : goal.invariant-loop-number
 invariant-loop-number l = record {
   good : All (IsGoodItem l.ram) l.items;
   count : length l.items ≡ l.number;
+  forward : l.number ≤ l.lines.at;
   reads : Reads l.text l.initial.lines.at l.lines.at (lines_from (item_line_of l.strand) 0 l.items);
   finds : (all : List Item) (rest : List ℕ) → l.ram ≤ 2 ^ 40 → All (IsGoodItem l.ram) all → NextIsNot 105 rest → drop l.initial.lines.at l.text ≡ lines_from (item_line_of l.strand) 0 all ++ rest
-      → IsLeft (item_line_of l.strand) l.text l.lines.at l.items all rest × (l.number ≤ l.lines.at);
+      → IsLeft (item_line_of l.strand) l.text l.lines.at l.items all rest;
 }
