@@ -16,9 +16,9 @@ returns-in_err-config-clause-exact c = λ report w bytes e.
 pub returns-in_err-traces-clause-exact : goal.returns-in_err-traces-clause-exact
 returns-in_err-traces-clause-exact c = λ report w bytes e.
     let head = c.in_ok-config.ensures.finds report.config report.image (after_image report) (head_good report w) bytes.image (after_image_next report w) (e ∙ text_parts report) in
-    let strands = strands_good report c.in_ok-config.config w head.0 in
-    let count : c.from.result * c.from-2.result ≡ c.in_ok-config.config.cores * c.in_ok-config.config.strands =
-    ap (λ (n : ℕ). n * c.from-2.result) c.from.ensures ∙ ap (λ (n : ℕ). c.in_ok-config.config.cores * n) c.from-2.ensures in
+    let strands = strands_good report c.in_ok-config.field-0.config w head.0 in
+    let count : c.from.result * c.from-2.result ≡ c.in_ok-config.field-0.config.cores * c.in_ok-config.field-0.config.strands =
+    ap (λ (n : ℕ). n * c.from-2.result) c.from.ensures ∙ ap (λ (n : ℕ). c.in_ok-config.field-0.config.cores * n) c.from-2.ensures in
     let traces = c.in_err-traces.ensures.finds report.traces (after_traces report) strands.room strands.good (strands.number ∙ sym count) head.2 in
     let p = err_from_is_err_and c.from_residual-in_err-traces.result c.from_residual-in_err-traces.ensures.1 in
     rw (p.1, p.2) traces
@@ -26,11 +26,11 @@ returns-in_err-traces-clause-exact c = λ report w bytes e.
 pub returns-in_err-log-clause-exact : goal.returns-in_err-log-clause-exact
 returns-in_err-log-clause-exact c = λ report w bytes e.
     let head = c.in_ok-config.ensures.finds report.config report.image (after_image report) (head_good report w) bytes.image (after_image_next report w) (e ∙ text_parts report) in
-    let strands = strands_good report c.in_ok-config.config w head.0 in
-    let count : c.from.result * c.from-2.result ≡ c.in_ok-config.config.cores * c.in_ok-config.config.strands =
-    ap (λ (n : ℕ). n * c.from-2.result) c.from.ensures ∙ ap (λ (n : ℕ). c.in_ok-config.config.cores * n) c.from-2.ensures in
+    let strands = strands_good report c.in_ok-config.field-0.config w head.0 in
+    let count : c.from.result * c.from-2.result ≡ c.in_ok-config.field-0.config.cores * c.in_ok-config.field-0.config.strands =
+    ap (λ (n : ℕ). n * c.from-2.result) c.from.ensures ∙ ap (λ (n : ℕ). c.in_ok-config.field-0.config.cores * n) c.from-2.ensures in
     let traces = c.in_ok-traces.ensures.finds report.traces (after_traces report) strands.room strands.good (strands.number ∙ sym count) head.2 in
-    let good = tail_good report c.in_ok-config.config c.as_slice.result.now w head.0 (c.as_slice.ensures ∙ traces.0) in
+    let good = tail_good report c.in_ok-config.field-0.config c.as_slice.result.now w head.0 (c.as_slice.ensures ∙ traces.0) in
     let tail = c.in_err-log.ensures.finds report.log report.order report.console good (named_all report w) bytes.console traces.1 in
     let p = err_from_is_err_and c.from_residual-in_err-log.result c.from_residual-in_err-log.ensures.1 in
     rw (p.1, p.2) tail
@@ -38,10 +38,10 @@ returns-in_err-log-clause-exact c = λ report w bytes e.
 pub returns-clause-exact : goal.returns-clause-exact
 returns-clause-exact c = λ report w bytes e.
     let head = c.in_ok-config.ensures.finds report.config report.image (after_image report) (head_good report w) bytes.image (after_image_next report w) (e ∙ text_parts report) in
-    let strands = strands_good report c.in_ok-config.config w head.0 in
-    let count : c.from.result * c.from-2.result ≡ c.in_ok-config.config.cores * c.in_ok-config.config.strands =
-    ap (λ (n : ℕ). n * c.from-2.result) c.from.ensures ∙ ap (λ (n : ℕ). c.in_ok-config.config.cores * n) c.from-2.ensures in
+    let strands = strands_good report c.in_ok-config.field-0.config w head.0 in
+    let count : c.from.result * c.from-2.result ≡ c.in_ok-config.field-0.config.cores * c.in_ok-config.field-0.config.strands =
+    ap (λ (n : ℕ). n * c.from-2.result) c.from.ensures ∙ ap (λ (n : ℕ). c.in_ok-config.field-0.config.cores * n) c.from-2.ensures in
     let traces = c.in_ok-traces.ensures.finds report.traces (after_traces report) strands.room strands.good (strands.number ∙ sym count) head.2 in
-    let good = tail_good report c.in_ok-config.config c.as_slice.result.now w head.0 (c.as_slice.ensures ∙ traces.0) in
+    let good = tail_good report c.in_ok-config.field-0.config c.as_slice.result.now w head.0 (c.as_slice.ensures ∙ traces.0) in
     let tail = c.in_ok-log.ensures.finds report.log report.order report.console good (named_all report w) bytes.console traces.1 in
     λ i. record { config = head.0 i; image = head.1 i; traces = traces.0 i; log = tail.0 i; order = tail.1 i; console = tail.2 i }
