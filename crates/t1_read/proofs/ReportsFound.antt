@@ -7,6 +7,7 @@ use Rattle.std.proofs.lemmas.Option.{slice_get_within, slice_get-get_or}
 use Rattle.std.proofs.Math.Nat.{mul-le-mul}
 use Rattle.t1_event.specs.declared.item.Item.{Item}
 use Rattle.t1_event.specs.declared.trace.Trace.{Trace}
+use Rattle.t1_event.specs.declared.report.Config.{Config}
 use Rattle.t1_event.specs.declared.report.Report.{Report}
 use Rattle.t1_event.specs.Items.{items_of}
 use Rattle.t1_log.specs.Lines.{config_line_of, entry_line_of, place_line_of, ending_line_of, end_line}
@@ -14,6 +15,7 @@ use Rattle.t1_log.specs.Texts.{lines_from, image_lines_of, head_lines_of, order_
 use Rattle.t1_log.specs.Log.{version_line, item_line_of, trace_lines_of, commit_line_of, console_line_of, console_lines_of, text_of}
 use Rattle.t1_take.specs.Items.{IsGoodTrace}
 use Rattle.t1_read.specs.Exact.{NextIsNot}
+use Rattle.t1_read.specs.Standing.{IsGoodHead, IsGoodTail}
 use Rattle.t1_take.specs.WellFormed.{IsNamed, IsWellFormed}
 use Rattle.t1_take.proofs.Leaving.{place_some, place_first, item_some, item_first}
 use Rattle.t1_read.proofs.StrandsFound.{has_ended, trace_is, end_some, end_first}
@@ -33,23 +35,9 @@ after_traces report = lines_from commit_line_of 0 report.log ++ after_log report
 abbrev pub after_image : Report → List ℕ
 after_image report = lines_from trace_lines_of 0 report.traces ++ after_traces report
 
-abbrev pub after_entry : Report → List ℕ
-after_entry report = image_lines_of report.image.ram ++ after_image report
-
-abbrev pub after_config : Report → List ℕ
-after_config report = entry_line_of report.image.entry ++ after_entry report
-
-abbrev pub after_version : Report → List ℕ
-after_version report = config_line_of report.config ++ after_config report
-
-pub text_parts : (report : Report) → text_of report ≡ version_line ++ after_version report
-unfolding text_of head_lines_of
-text_parts report =
-    let m : List ℕ = config_line_of report.config in
-    let e : List ℕ = entry_line_of report.image.entry in
-    let i : List ℕ = image_lines_of report.image.ram in
-    append_assoc version_line (m ++ (e ++ i)) (after_image report)
-    ∙ ap (λ (t : List ℕ). version_line ++ t) (append_assoc m (e ++ i) (after_image report) ∙ ap (λ (t : List ℕ). m ++ t) (append_assoc e i (after_image report)))
+pub text_parts : (report : Report) → text_of report ≡ head_lines_of version_line report.config report.image ++ after_image report
+unfolding text_of
+text_parts report = refl
 
 -- ---- how it begins
 
@@ -148,3 +136,22 @@ named_all report w k d l =
     let most : report.config.cores * report.config.strands ≤ 8 * 4 = mul-le-mul cores strands in
     let number = w.number in
     record { strand = omega (arith, strand, number, most); item = omega (arith, item, few) }
+
+-- ---- what a report that was found asks of its parts
+
+pub head_good : (report : Report) → IsWellFormed report → IsGoodHead report.config report.image
+head_good report w = record { limits = w.limits; entry = w.entry; size = w.image }
+
+pub record AreStrandsOf (report : Report) (config : Config) : Type 0 where
+  pub room : config.ram ≤ 2 ^ 40
+  pub good : All (IsGoodTrace config.ram) report.traces
+  pub number : length report.traces ≡ config.cores * config.strands
+
+pub strands_good : (report : Report) (config : Config) → IsWellFormed report → config ≡ report.config → AreStrandsOf report config
+strands_good report config w e =
+    subst (AreStrandsOf report) (sym e) (record { room = ram_small report w; good = w.traces; number = w.number })
+
+pub tail_good : (report : Report) (config : Config) (traces : List Trace) → IsWellFormed report → config ≡ report.config → traces ≡ report.traces → IsGoodTail config traces report.log report.order
+tail_good report config traces w e f =
+    subst (λ (k : Config). IsGoodTail k traces report.log report.order) (sym e)
+    (subst (λ (ts : List Trace). IsGoodTail report.config ts report.log report.order) (sym f) (record { log_is = w.log; order_is = w.order }))

@@ -18,8 +18,8 @@
 
 mod error;
 mod head;
-mod lines;
 pub mod laws;
+mod lines;
 mod reader;
 mod strands;
 mod tail;
