@@ -1,3 +1,4 @@
 pub mod Cuts
-pub mod Tails
 pub mod Lines
+pub mod Printed
+pub mod Tails
