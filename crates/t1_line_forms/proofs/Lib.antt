@@ -1,3 +1,7 @@
+pub mod CommitFields
 pub mod Cuts
-pub mod Tails
+pub mod ItemFields
 pub mod Lines
+pub mod Numerals
+pub mod Printed
+pub mod Tails

@@ -2,3 +2,4 @@ pub mod Digits
 pub mod Fields
 pub mod Forms
 pub mod Tables
+pub mod Words

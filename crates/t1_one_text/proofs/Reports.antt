@@ -15,7 +15,8 @@ use Rattle.t1_take.specs.WellFormed.{AreGoodCommits, IsNamed, IsGoodPlace, IsWel
 use Rattle.t1_take.proofs.HeadTexts.{AreSmall, numbers_small}
 use Rattle.t1_read.proofs.Printed.{is_printable}
 use Rattle.t1_take.proofs.Leaving.{place_first, commit_first}
-use Rattle.t1_read.proofs.ReportsFound.{after_order, after_log, after_traces, after_image, after_entry, after_config, after_version, text_parts, after_console_next, after_order_next, after_log_next, after_image_next, ram_small, named_all}
+use Rattle.t1_read.proofs.ReportsFound.{after_order, after_log, after_traces, after_image, text_parts, after_console_next, after_order_next, after_log_next, after_image_next, ram_small, named_all}
+use Rattle.t1_read.proofs.Whole.{head_parts}
 use Rattle.t1_one_text.proofs.Fields.{same_front, number_cut, digits_cut}
 use Rattle.t1_one_text.proofs.Lists.{each_all, each_numbered, each_both, lists_cut, counted_cut}
 use Rattle.t1_one_text.proofs.Strands.{traces_cut}
@@ -24,6 +25,18 @@ use Rattle.t1_one_text.proofs.Images.{images_cut}
 use Rattle.t1_one_text.proofs.Bytes.{console_cut}
 
 -- ---- the machine and the entry
+
+abbrev after_entry : Report → List ℕ
+after_entry report = image_lines_of report.image.ram ++ after_image report
+
+abbrev after_config : Report → List ℕ
+after_config report = entry_line_of report.image.entry ++ after_entry report
+
+abbrev after_version : Report → List ℕ
+after_version report = config_line_of report.config ++ after_config report
+
+parts_of : (report : Report) → text_of report ≡ version_line ++ after_version report
+parts_of report = text_parts report ∙ head_parts report.config report.image (after_image report)
 
 config_cut : (a b : Config) (x y : List ℕ) → AreSmall a → AreSmall b → config_line_of a ++ x ≡ config_line_of b ++ y → (a ≡ b) × (x ≡ y)
 unfolding config_line_of
@@ -49,7 +62,7 @@ pub record SameHead (one other : Report) : Type 0 where
 
 heads_same : (one other : Report) → IsWellFormed one → HasBytes one → IsWellFormed other → HasBytes other → text_of one ≡ text_of other → SameHead one other
 heads_same one other w b v c e =
-    let versions = same_front version_line (after_version one) (after_version other) (sym (text_parts one) ∙ (e ∙ text_parts other)) in
+    let versions = same_front version_line (after_version one) (after_version other) (sym (parts_of one) ∙ (e ∙ parts_of other)) in
     let config = config_cut one.config other.config (after_config one) (after_config other) (numbers_small one.config w.limits) (numbers_small other.config v.limits) versions in
     let entry = entry_cut one.image.entry other.image.entry (after_entry one) (after_entry other) w.entry v.entry config.1 in
     let printable = is_printable one w in
