@@ -1,11 +1,10 @@
 -- Strands that stand in a text are read.
-use Rattle.std.proofs.Common.{◌≡◌, ◌∙◌, ℕ, ◌+◌, ◌<◌, ◌++◌, true, List, [], length, drop, get_or, All, Option, Some, None, refl, sym, ap, inl, inr, arith}
+use Rattle.std.proofs.Common.{◌≡◌, ◌∙◌, ℕ, ◌+◌, ◌<◌, ◌++◌, List, [], length, drop, get_or, All, Option, Some, None, refl, sym, ap, inl, inr, arith}
 use Rattle.t1_event.specs.declared.trace.Trace.{Trace}
 use Rattle.t1_event.specs.declared.trace.Ending.{Ending}
 use Rattle.t1_log.specs.Lines.{ending_line_of}
 use Rattle.t1_log.specs.Texts.{lines_from}
 use Rattle.t1_log.specs.Log.{item_line_of, trace_lines_of}
-use Rattle.t1_take.specs.declared.cursor.Cursor.{Cursor}
 use Rattle.t1_take.specs.Items.{IsGoodEnd}
 use Rattle.t1_take.proofs.Finding.{next}
 use Rattle.t1_take.proofs.Leaving.{IsLeft, IsNext, left_cases, peeked, all_next}
@@ -57,10 +56,6 @@ strand_next text at strand trace rest good e =
     }
 
 -- ---- loops over lines
-
--- the byte at a cursor that begins there
-pub byte_at : (text : List ℕ) (cursor : Cursor) (at byte : ℕ) → cursor ≡ record { at = at; good = true } → byte ≡ get_or text cursor.at 0 → byte ≡ get_or text at 0
-byte_at text cursor at byte e b = b ∙ ap (λ (k : Cursor). get_or text k.at 0) e
 
 -- an element stands next
 pub record IsElementNext {A : Type 0} (f : ℕ → A → List ℕ) (P : A → Type 0) (text : List ℕ) (at number : ℕ) (done all : List A) (rest : List ℕ) : Type 0 where

@@ -1,5 +1,5 @@
 -- Strands that were read stand, and a line of theirs that was refused is the first line at fault.
-use Rattle.std.proofs.Common.{◌≡◌, ◌∙◌, ℕ, ◌+◌, ◌*◌, ◌^◌, ◌<◌, ◌≤◌, true, List, [], ◌∷◌, ◌++◌, length, drop, get_or, All, Some, refl, sym, ap, subst, append_assoc, append-nil, inl, inr, arith}
+use Rattle.std.proofs.Common.{◌≡◌, ◌∙◌, ℕ, ◌+◌, ◌*◌, ◌^◌, ◌<◌, ◌≤◌, List, [], ◌∷◌, ◌++◌, length, drop, get_or, All, Some, refl, sym, ap, subst, append_assoc, append-nil, inl, inr, arith}
 use Rattle.std.proofs.lemmas.Bool.{cases_lt}
 use Rattle.std.proofs.lemmas.List.{length-append, length-drop}
 use Rattle.std.proofs.lemmas.List.Elements.{All-push}
@@ -59,7 +59,7 @@ more_text config image traces trace =
     append_assoc head strands (trace_lines_of (length traces) trace)
     ∙ (ap (λ (t : List ℕ). head ++ t) (sym last) ∙ sym (traces_text config image (traces ++ trace ∷ [])))
 
--- a text that reads so from a place on, behind what stands before that place
+-- what stands before a place, and what a text reads from there on
 joined : (text front piece whole so : List ℕ) (a b : ℕ) → text ≡ so ++ drop a text → so ≡ front → Reads text a b piece → front ++ piece ≡ whole → text ≡ whole ++ drop b text
 joined text front piece whole so a b s f r w =
     s ∙ (ap (λ (t : List ℕ). t ++ drop a text) f ∙ (ap (λ (t : List ℕ). front ++ t) r ∙ (sym (append_assoc front piece (drop b text)) ∙ ap (λ (t : List ℕ). t ++ drop b text) w)))
@@ -122,7 +122,7 @@ only_block report items line.Order f e = absurd (omega (arith, e))
 only_block report items line.Console f e = absurd (omega (arith, e))
 only_block report items line.Last f e = absurd (omega (arith, e))
 
--- no line brings no place on
+-- where no item stands, the place is the same
 same_next : (text : List ℕ) (a b strand : ℕ) (items : List Item) → items ≡ [] → Reads text a b (lines_from (item_line_of strand) 0 items) → get_or text a 0 ≡ get_or text b 0
 unfolding lines_from
 same_next text a b strand items none r =
@@ -137,7 +137,7 @@ items_past text a b config image traces items p r kind f l e =
 
 -- ---- items
 
--- behind the items of a strand, with what its function was called with
+-- between two places stand items of the strand whose end is the next to be read, for a machine of so much RAM
 pub record IsAmong (text : List ℕ) (a b : ℕ) (config : Config) (image : Image) (traces : List Trace) (items : List Item) (strand ram : ℕ) : Type 0 where
   pub before : HasTraces text a config image traces
   pub is_open : IsOpen config traces
