@@ -7,3 +7,5 @@ pub mod StrandsFound
 pub mod ImageFound
 pub mod ConsoleFound
 pub mod ReportsFound
+pub mod TailStands
+pub mod TailFound
