@@ -9,3 +9,5 @@ pub mod StrandsStand
 pub mod ImageFound
 pub mod ConsoleFound
 pub mod ReportsFound
+pub mod TailStands
+pub mod TailFound
