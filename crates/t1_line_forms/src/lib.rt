@@ -8,7 +8,8 @@
 //! if has_form(Line::Order, b"o 0 99999999999999999999") { .. }
 //! ```
 //!
-//! `specs/Forms.antt` has the forms, `specs/Fields.antt` what each field is.
+//! `specs/Forms.antt` has the forms, `specs/Fields.antt` what each field is. The lines that `t1_log`
+//! prints have their forms ([`laws`]).
 #![tactic(auto)]
 
 mod digits;

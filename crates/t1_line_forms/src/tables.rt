@@ -6,7 +6,7 @@ ghost use Rattle.t1_line_forms.specs.Tables.{seen_forms};
 use crate::field::{Field, Form, Tail};
 use crate::line::Line;
 
-// Fields, and how the line ends behind them. A word is a text in quotes.
+// Fields, and how the line ends behind them.
 macro_rules! form {
     ($tail:ident: $($field:expr),*) => {
         Form { fields: &[$($field),*], tail: Tail::$tail }
