@@ -9,6 +9,7 @@ use Rattle.t1_check.specs.declared.verdict.Verdict.TheVariants.{Holds, Broken}
 use Rattle.t1_log.specs.Log.{text_of}
 use Rattle.t1_take.specs.WellFormed.{IsWellFormed}
 use Rattle.t1_read.specs.Exact.{HasBytes}
+use Rattle.t1_read.specs.Faults.{IsFaultOf}
 use Rattle.t1_cli.specs.declared.refusal.Refusal.{Refusal}
 use Rattle.t1_cli.specs.declared.refusal.Refusal.TheVariants.{TooLong, NoLog}
 use Rattle.t1_cli.specs.Runs.{most_input}
@@ -25,10 +26,11 @@ pub record IsLogOf (input : List ℕ) (report : Report) : Type 0 where
 abbrev pub HasNoReport : List ℕ → Type 0
 HasNoReport input = (report : Report) → IsLogOf input report → ⊥
 
--- why an input is no log
+-- why an input is no log: it is too long; or no report has this text, and this is its first line at fault,
+-- counted from 1, with what is at fault with it
 abbrev pub IsNoLog : List ℕ → Refusal → Type 0
 IsNoLog input TooLong = most_input < length input
-IsNoLog input (NoLog line kind) = HasNoReport input
+IsNoLog input (NoLog line kind) = HasNoReport input × IsFaultOf input line kind
 IsNoLog input _ = ⊥
 
 -- ---- verdicts

@@ -6,7 +6,7 @@ use Rattle.std.proofs.lemmas.Bool.{eqb-true, eqb-false}
 use Rattle.std.proofs.lemmas.List.{nil_from_length}
 use Rattle.t1_line_forms.specs.Digits.{is_hex_digit}
 use Rattle.t1_line_forms.specs.Fields.{Leads}
-use Rattle.t1_line_forms.specs.Forms.{kill_fields, AreKills, AreBytes}
+use Rattle.t1_line_forms.specs.Forms.{kill_fields, AreKills, AreByteDigits}
 
 -- ---- kills
 
@@ -43,6 +43,6 @@ kills_decided false rest All left z e back forth = λ all.
 
 -- ---- bytes
 
-pub bytes_decided : (r : Bool) (text : List ℕ) → r ≡ list_all is_hex_digit text → 0 < length text → length text ≤ 64 → length text % 2 ≡ 0 → MatchBool r (AreBytes text) (AreBytes text → ⊥)
+pub bytes_decided : (r : Bool) (text : List ℕ) → r ≡ list_all is_hex_digit text → 0 < length text → length text ≤ 64 → length text % 2 ≡ 0 → MatchBool r (AreByteDigits text) (AreByteDigits text → ⊥)
 bytes_decided true text e some few even = (length text / 2, omega (arith, few), record { are_digits = sym e; many = omega (arith, even); some = omega (arith, some, even) })
 bytes_decided false text e some few even = λ b. (let bad : false ≡ true = e ∙ b.2.are_digits in cc)

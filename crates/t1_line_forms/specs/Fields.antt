@@ -12,7 +12,8 @@ pub data Field : Type 0 where
   Value : Field
   Cache : Field
 
--- this text is the field, in a line whose size has these digits: a value has two digits for each byte
+-- this text is the field, in a line whose size has these digits: a value has two digits for each byte, and so a
+-- size of 0, or of more bytes than the line has digits for, has no form
 abbrev pub IsField : List ℕ → Field → List ℕ → Type 0
 IsField size (Word word) text = text ≡ word
 IsField size Number text = IsDecimal text

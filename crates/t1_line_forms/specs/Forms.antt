@@ -1,4 +1,5 @@
--- The forms of the lines of a log: what a line of each kind looks like, whatever its numbers are.
+-- The forms of the lines of a log: what a line of each kind looks like, whatever its numbers are but those that
+-- count up.
 use Rattle.std.specs.Prelude.{ℕ, zero, suc, ◌≡◌, ◌*◌, ◌≤◌, ◌⊎◌, List, [], ◌∷◌, ◌++◌, codes, decimal}
 use Rattle.t1_line_forms.specs.Digits.{IsHex}
 use Rattle.t1_line_forms.specs.Fields.{Field, Word, Number, Hex, Size, Value, Cache, Leads, HasFields}
@@ -27,14 +28,14 @@ AreKills zero text = text ≡ []
 AreKills (suc most) text = (text ≡ []) ⊎ ((rest : List ℕ) × Leads [] kill_fields text rest × AreKills most rest)
 
 -- at least one byte, and at most 32
-abbrev pub AreBytes : List ℕ → Type 0
-AreBytes text = (count : ℕ) × (count ≤ 32) × IsHex (2 * count) text
+abbrev pub AreByteDigits : List ℕ → Type 0
+AreByteDigits text = (count : ℕ) × (count ≤ 32) × IsHex (2 * count) text
 
 abbrev pub IsTail : Tail → List ℕ → Type 0
 IsTail Nothing text = text ≡ []
 IsTail Place text = IsPlace text
 IsTail Kills text = AreKills 64 text
-IsTail Bytes text = AreBytes text
+IsTail Bytes text = AreByteDigits text
 
 -- ---- forms
 
@@ -86,7 +87,7 @@ end_forms =
 
 -- destination, strand, item, then the filled way or a dash, and the evicted line or a dash
 abbrev pub commit_form : List Field → Form
-commit_form filled = record { fields = Number ∷ Word (codes " ") ∷ Number ∷ Word (codes " ") ∷ Number ∷ Word (codes " ") ∷ filled; tail = Kills }
+commit_form ends = record { fields = Number ∷ Word (codes " ") ∷ Number ∷ Word (codes " ") ∷ Number ∷ Word (codes " ") ∷ ends; tail = Kills }
 
 abbrev pub commit_forms : List Form
 commit_forms =
@@ -107,18 +108,18 @@ last_forms = record { fields = []; tail = Nothing } ∷ []
 
 -- ---- lines
 
--- a number that a line shows at its place
-abbrev pub place_of : ℕ → List ℕ
-place_of number = decimal number ++ codes " "
+-- a number that counts up, and the space behind it
+abbrev pub counted : ℕ → List ℕ
+counted number = decimal number ++ codes " "
 
 -- how a line begins
 abbrev pub head_of : Line → List ℕ
 head_of Config = codes "config cores "
 head_of Entry = codes "entry "
 head_of Block = codes "m "
-head_of (Item strand number) = codes "i " ++ (place_of strand ++ place_of number)
-head_of (End strand) = codes "e " ++ place_of strand
-head_of (Commit index) = codes "c " ++ place_of index
+head_of (Item strand number) = codes "i " ++ (counted strand ++ counted number)
+head_of (End strand) = codes "e " ++ counted strand
+head_of (Commit index) = codes "c " ++ counted index
 head_of Order = codes "o "
 head_of Console = codes "k "
 head_of Last = codes "end"

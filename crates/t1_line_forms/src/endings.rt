@@ -1,6 +1,6 @@
 //! How lines end.
 ghost use Rattle.std.specs.Prelude.{ℕ, ◌≡◌, List, [], MatchBool};
-ghost use Rattle.t1_line_forms.specs.Forms.{IsPlace, AreKills, AreBytes, IsTail, kill_fields};
+ghost use Rattle.t1_line_forms.specs.Forms.{IsPlace, AreKills, AreByteDigits, IsTail, kill_fields};
 ghost use Rattle.t1_line_forms.specs.Tables.{seen_fields};
 
 use crate::digits::are_hex_digits;
@@ -60,7 +60,7 @@ fn are_kills(text: &[u8]) -> bool
 
 /// Whether a text is 1 to 32 bytes in hexadecimal digits.
 fn are_bytes(text: &[u8]) -> bool
-    ensures { MatchBool result (AreBytes text.now) (AreBytes text.now → ⊥) }
+    ensures { MatchBool result (AreByteDigits text.now) (AreByteDigits text.now → ⊥) }
 {
     if text.is_empty() || text.len() > 64 {
         return false;

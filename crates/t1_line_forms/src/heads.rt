@@ -1,6 +1,6 @@
 //! How lines begin.
 ghost use Rattle.std.specs.Prelude.{ℕ, ◌≡◌, ◌++◌, List, codes, decimal, MatchOption};
-ghost use Rattle.t1_line_forms.specs.Forms.{place_of, head_of};
+ghost use Rattle.t1_line_forms.specs.Forms.{counted, head_of};
 
 use crate::field::after;
 use crate::line::Line;
@@ -16,7 +16,7 @@ fn after_number(text: &[u8], number: u64) -> Option<&[u8]>
 
 /// What follows this number and a space, if a text begins with them.
 fn after_place(text: &[u8], number: u64) -> Option<&[u8]>
-    ensures { MatchOption result ((rest : List ℕ) → text.now ≡ place_of number ++ rest → ⊥) (λ rest. text.now ≡ place_of number ++ rest.now) }
+    ensures { MatchOption result ((rest : List ℕ) → text.now ≡ counted number ++ rest → ⊥) (λ rest. text.now ≡ counted number ++ rest.now) }
 {
     match after_number(text, number) {
         Some(rest) => after(rest, b" "),
@@ -26,7 +26,7 @@ fn after_place(text: &[u8], number: u64) -> Option<&[u8]>
 
 /// What follows a word and the number of a place.
 fn after_one<'a>(text: &'a [u8], word: &[u8], number: u64) -> Option<&'a [u8]>
-    ensures { MatchOption result ((rest : List ℕ) → text.now ≡ (word.now ++ place_of number) ++ rest → ⊥) (λ rest. text.now ≡ (word.now ++ place_of number) ++ rest.now) }
+    ensures { MatchOption result ((rest : List ℕ) → text.now ≡ (word.now ++ counted number) ++ rest → ⊥) (λ rest. text.now ≡ (word.now ++ counted number) ++ rest.now) }
 {
     match after(text, word) {
         Some(rest) => after_place(rest, number),
@@ -36,7 +36,7 @@ fn after_one<'a>(text: &'a [u8], word: &[u8], number: u64) -> Option<&'a [u8]>
 
 /// What follows the strand and the number of an item.
 fn after_item(text: &[u8], strand: u64, number: u64) -> Option<&[u8]>
-    ensures { MatchOption result ((rest : List ℕ) → text.now ≡ (codes "i " ++ (place_of strand ++ place_of number)) ++ rest → ⊥) (λ rest. text.now ≡ (codes "i " ++ (place_of strand ++ place_of number)) ++ rest.now) }
+    ensures { MatchOption result ((rest : List ℕ) → text.now ≡ (codes "i " ++ (counted strand ++ counted number)) ++ rest → ⊥) (λ rest. text.now ≡ (codes "i " ++ (counted strand ++ counted number)) ++ rest.now) }
 {
     match after_one(text, b"i ", strand) {
         Some(rest) => after_place(rest, number),

@@ -1,19 +1,19 @@
 //! The reader of logs.
 //!
 //! [`read_log`] reads the text that `t1_log::print` writes. The report that it answers is well formed,
-//! and the text is its log; the log of a well-formed report reads as that report (`specs/Exact.antt`);
-//! for another text it answers the first line at fault and its kind. The text is read once, line by
-//! line, in the order in which it is printed: the machine, the image, the strands, the commits, the
-//! memory order, the console.
+//! and the text is its log; the log of a well-formed report reads as that report (`specs/Exact.antt`).
+//! For another text it answers the first line at fault and what is at fault with it
+//! (`specs/Faults.antt`), unless memory was wanting. The text is read once, line by line, in the order in
+//! which it is printed: the head with the machine and the image, the strands, and the tail with the
+//! commits, the memory order and the console.
 //!
 //! ```text
 //! let report = read_log(alloc, text)?;
 //! ```
 //!
-//! Each line is taken by a function of `t1_take`, with a cursor that knows whether it is good: of its form
-//! and in its ranges. A line that is not good is the first line at fault. Contracts say what stands between
-//! two places of the text (`specs/Taken.antt` of `t1_take`), and `specs/WellFormed.antt` there which
-//! reports a log can have.
+//! Each line is taken by a function of `t1_take`. A line that it refuses is the first at fault. It is
+//! looked at a second time, by `t1_line_forms::has_form`: one that has the form of its place, whatever its
+//! numbers are, holds a value out of its range, and any other is a fault of syntax.
 #![tactic(auto)]
 
 mod error;

@@ -1,7 +1,7 @@
 use Rattle.std.proofs.Common.{◌++◌, codes}
-use Rattle.t1_line_forms.specs.Forms.{place_of}
+use Rattle.t1_line_forms.specs.Forms.{counted}
 use Rattle.t1_line_forms.proofs.Lines.{behind}
 use Rattle.t1_line_forms.proofs.heads.after_item.Goals as goal
 
 pub returns-in-Some : goal.returns-in-Some
-returns-in-Some c = behind c.after_place.result c.args.text.now (codes "i " ++ place_of c.args.strand) c.in-Some.rest.now (place_of c.args.number) c.in-Some.ensures c.after_place.ensures
+returns-in-Some c = behind c.after_place.result c.args.text.now (codes "i " ++ counted c.args.strand) c.in-Some.rest.now (counted c.args.number) c.in-Some.ensures c.after_place.ensures

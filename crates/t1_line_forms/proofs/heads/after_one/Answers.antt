@@ -1,6 +1,6 @@
-use Rattle.t1_line_forms.specs.Forms.{place_of}
+use Rattle.t1_line_forms.specs.Forms.{counted}
 use Rattle.t1_line_forms.proofs.Lines.{behind}
 use Rattle.t1_line_forms.proofs.heads.after_one.Goals as goal
 
 pub returns-in-Some : goal.returns-in-Some
-returns-in-Some c = behind c.after_place.result c.args.text.now c.args.word.now c.in-Some.rest.now (place_of c.args.number) c.in-Some.ensures c.after_place.ensures
+returns-in-Some c = behind c.after_place.result c.args.text.now c.args.word.now c.in-Some.rest.now (counted c.args.number) c.in-Some.ensures c.after_place.ensures
