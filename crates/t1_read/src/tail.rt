@@ -95,6 +95,13 @@ fn read_order(
     Ok(order)
 }
 
+/// What is stored in bytes is below 256.
+fn are_bytes(bytes: &[u8])
+    ensures { AreBytes bytes.now }
+{
+    let _ = bytes;
+}
+
 /// Reads the lines of the console, up to a short one.
 fn read_console(alloc: Global, lines: &mut Lines, text: &[u8]) -> Result<Listed<u8>, LogError>
     requires { length text.now ≤ 67108864 }
@@ -116,6 +123,7 @@ fn read_console(alloc: Global, lines: &mut Lines, text: &[u8]) -> Result<Listed<
         if !cursor.is_good() {
             return Err(lines.fault(text, Line::Console));
         }
+        are_bytes(bytes.as_slice());
         append(&mut console, bytes.as_slice())?;
         full = bytes.len() == 32;
         lines.went(cursor);
