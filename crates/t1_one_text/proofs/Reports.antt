@@ -8,6 +8,7 @@ use Rattle.t1_event.specs.declared.trace.Trace.{Trace}
 use Rattle.t1_event.specs.Items.{items_of}
 use Rattle.t1_event.specs.Printable.{FitsDigits}
 use Rattle.t1_log.specs.Lines.{config_line_of, entry_line_of, place_line_of, end_line}
+use Rattle.t1_log.specs.Texts.{image_lines_of}
 use Rattle.t1_log.specs.Log.{version_line, trace_lines_of, commit_line_of, text_of}
 use Rattle.t1_read.specs.Exact.{NextIsNot, HasBytes}
 use Rattle.t1_take.specs.Items.{IsGoodTrace}
