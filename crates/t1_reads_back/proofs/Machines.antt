@@ -18,7 +18,7 @@ use Rattle.t1_machine_rule.proofs.Stand.{log_is_short}
 use Rattle.t1_iob.specs.Console.{console_addr, console_byte_of, with_byte, console_of}
 use Rattle.t1_machine_rule.specs.Parts.{traces_in}
 use Rattle.t1_machine_rule.specs.Words.{AreWords}
-use Rattle.t1_read.specs.Limits.{is_in_limits}
+use Rattle.t1_take.specs.Limits.{is_in_limits}
 use Rattle.t1_reads_back.specs.Laws.{reported, ReadsBack, ReportsAreWellFormed}
 use Rattle.t1_reads_back.proofs.Histories.{histories_good}
 
