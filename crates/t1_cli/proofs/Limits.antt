@@ -10,7 +10,7 @@ use Rattle.t1_elf.specs.Images.{image_of}
 use Rattle.t1_elf.specs.Parsed.{KeepsTo}
 use Rattle.t1_event.specs.declared.report.Config.{Config}
 use Rattle.t1_machine.specs.Start.{IsRunnable, setup_of}
-use Rattle.t1_read.specs.Limits.{is_in_limits as is_in_limits_of_logs, is_set_count as is_set_count_of_logs}
+use Rattle.t1_take.specs.Limits.{is_in_limits as is_in_limits_of_logs, is_set_count as is_set_count_of_logs}
 use Rattle.t1_cli.specs.declared.command.Reading.{Reading}
 use Rattle.t1_cli.specs.Words.{is_set_count, is_in_limits, read_next, ended, options_after}
 

@@ -23,7 +23,7 @@ use Rattle.t1_machine_rule.specs.Stands.{IsRunOf}
 use Rattle.t1_machine_rule.specs.Words.{AreWords}
 use Rattle.t1_machine_rule.proofs.Stand.{machines_stand}
 use Rattle.t1_chip.specs.Chips.{ChipState, RunsToEnd, Reported}
-use Rattle.t1_read.specs.Limits.{is_in_limits}
+use Rattle.t1_take.specs.Limits.{is_in_limits}
 use Rattle.t1_reads_back.specs.Laws.{ReadsBack}
 use Rattle.t1_reads_back.proofs.Machines.{reports_good}
 use Rattle.t1_cli.specs.declared.refusal.Refusal.TheVariants.{TooLong, Misformed}
