@@ -10,9 +10,9 @@ use Rattle.t1_elf.specs.Images.{image_of}
 use Rattle.t1_elf.specs.Parsed.{KeepsTo}
 use Rattle.t1_event.specs.declared.report.Config.{Config}
 use Rattle.t1_machine.specs.Start.{IsRunnable, setup_of}
-use Rattle.t1_take.specs.Limits.{is_in_limits as is_in_limits_of_logs, is_set_count as is_set_count_of_logs}
 use Rattle.t1_cli.specs.declared.command.Reading.{Reading}
-use Rattle.t1_cli.specs.Words.{is_set_count, is_in_limits, read_next, ended, options_after}
+use Rattle.t1_cli.specs.Words.{read_next, ended, options_after}
+use Rattle.t1_take.specs.Limits.{is_set_count, is_in_limits}
 
 -- ---- limits
 
@@ -34,15 +34,9 @@ few_sets n =
     (or_few n 64 _ (omega arith, omega arith) (or_few n 128 _ (omega arith, omega arith) (or_few n 256 _ (omega arith, omega arith)
     (or_few n 512 _ (omega arith, omega arith) (λ h. subst (λ (m : ℕ). IsFew m) (sym (eqb-true n 1024 h)) (omega arith, omega arith)))))))))))
 
--- they are those of the machines in logs
-pub limits_of_logs : (config : Config) → is_in_limits config ≡ true → is_in_limits_of_logs config ≡ true
-unfolding is_in_limits is_set_count is_set_count_of_logs
-limits_of_logs config h = h
-
 -- a machine within the limits, with an image of its RAM and an aligned entry, can be run
 pub runnable : (config : Config) (image : Image) → is_in_limits config ≡ true → length image.ram ≡ config.ram → image.entry % 4 ≡ 0
     → IsRunnable (setup_of config image)
-unfolding is_in_limits
 runnable config image h size entry =
     let cores : Bool = nat_le 1 config.cores && nat_le config.cores 8 in
     let strands : Bool = nat_le 1 config.strands && nat_le config.strands 4 in

@@ -9,7 +9,7 @@ ghost use Rattle.t1_cli.specs.Runs.{IsReportOf, by_schedule, printed_of};
 ghost use Rattle.t1_cli.specs.Serial.{HasNoText};
 ghost use Rattle.t1_cli.specs.Statuses.{status_of_verdict};
 ghost use Rattle.t1_cli.specs.Verdict.{Judged};
-ghost use Rattle.t1_cli.specs.Words.{is_in_limits};
+ghost use Rattle.t1_take.specs.Limits.{is_in_limits};
 
 use crate::command::Run;
 use crate::ended::ended;

@@ -8,7 +8,7 @@ ghost use Rattle.t1_log.specs.Log.{text_of};
 ghost use Rattle.t1_cli.specs.Serial.{HasText, HasNoText};
 ghost use Rattle.t1_cli.specs.Statuses.{status_of_verdict};
 ghost use Rattle.t1_cli.specs.Verdict.{OfInput, Judged, JudgedInput};
-ghost use Rattle.t1_cli.specs.Words.{is_in_limits};
+ghost use Rattle.t1_take.specs.Limits.{is_in_limits};
 ghost use Rattle.t1_top.specs.Live.{IsLiveReportOf};
 
 use std::alloc::{AllocError, Global};

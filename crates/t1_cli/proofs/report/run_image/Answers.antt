@@ -1,6 +1,5 @@
 use Rattle.t1_num.specs.MemoryLaws.{AreBytes}
 use Rattle.t1_machine.specs.Start.{setup_of}
-use Rattle.t1_cli.proofs.Limits.{limits_of_logs}
 use Rattle.t1_cli.proofs.Reports.{Ended, is_report}
 use Rattle.t1_cli.proofs.report.run_image.Goals as goal
 
@@ -15,4 +14,4 @@ returns-clause-report c =
       words = c.into_report.ensures.words;
     } in
     is_report (setup_of c.args.config c.args.image) c.args.schedule c.in_ok-chip.chip c.run.new.self c.into_report.result
-    (limits_of_logs c.args.config c.requires.limits) c.requires.entry c.requires.runnable bytes c.in_ok-chip.ensures c.run.ensures.machine ended
+    c.requires.limits c.requires.entry c.requires.runnable bytes c.in_ok-chip.ensures c.run.ensures.machine ended

@@ -1,6 +1,5 @@
 use Rattle.std.proofs.Common.{◌∙◌}
 use Rattle.t1_machine.specs.Start.{setup_of}
-use Rattle.t1_cli.proofs.Limits.{limits_of_logs}
 use Rattle.t1_top.proofs.Lives.{Ended, live_report, has_text}
 use Rattle.t1_top.proofs.live.run_agents.Goals as goal
 
@@ -15,7 +14,7 @@ returns-clause-report g c =
       words = c.into_report.ensures.words;
     } in
     live_report (setup_of c.args.config.now c.args.image) c.in_ok-ended.ended c.into_report.result (c.in_ok-ended.ensures.setup ∙ c.in_ok-agents.ensures.setup)
-    (limits_of_logs c.args.config.now c.requires.limits) c.requires.entry ended
+    c.requires.limits c.requires.entry ended
 
 pub returns-clause-text : goal.returns-clause-text
 returns-clause-text g c =
