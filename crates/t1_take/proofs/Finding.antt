@@ -1,5 +1,5 @@
 -- What stands in a text is taken: digits are cut in one way.
-use Rattle.std.proofs.Common.{◌≡◌, ℕ, zero, suc, ◌+◌, ◌*◌, ◌-◌, ◌/◌, ◌%◌, ◌^◌, ◌<◌, ◌≤◌, ◌⊎◌, min, true, false, List, [], ◌∷◌, ◌++◌, length, take, drop, get_or, codes, Option, Some, None, refl, sym, ap, subst, ◌∙◌, append_assoc, inl, inr, arith}
+use Rattle.std.proofs.Common.{◌≡◌, ℕ, zero, suc, ◌+◌, ◌*◌, ◌-◌, ◌/◌, ◌%◌, ◌^◌, ◌<◌, ◌≤◌, ◌⊎◌, min, true, List, [], ◌∷◌, ◌++◌, length, take, drop, get_or, codes, Option, Some, None, refl, sym, ap, subst, ◌∙◌, append_assoc, inl, inr, arith}
 use Rattle.std.specs.Str.{all_ascii_digits}
 use Rattle.std.specs.Char.{is_ascii_digit}
 use Rattle.std.specs.Fmt.{decimal}
@@ -9,6 +9,8 @@ use Rattle.std.proofs.lemmas.List.{take-append-le, take_all, drop-drop, get_or-t
 use Rattle.std.proofs.Math.Seq.{drop-append_seam}
 use Rattle.std.proofs.Math.Nat.{div-div-eq-div-mul, div-eq_of_lt}
 use Rattle.std.proofs.lemmas.Nat.{pow-add}
+use Rattle.t1_line_forms.specs.Digits.{EndsDecimal}
+use Rattle.t1_line_forms.proofs.Cuts as cuts
 use Rattle.t1_log.specs.Hex.{digit_of, hex_of}
 use Rattle.t1_log.specs.Log.{way_field_of, evicted_field_of}
 use Rattle.t1_take.specs.WellFormed.{IsGoodWay}
@@ -35,18 +37,13 @@ next all p q rest e = e ∙ append_assoc p q rest
 
 -- ---- decimal digits
 
+-- the same of the forms of lines
+ends_decimal : (x : List ℕ) → EndsDigits x → EndsDecimal x
+ends_decimal [] m = m
+ends_decimal (c ∷ x) m = m
+
 pub one_cut : (a b x y : List ℕ) → all_ascii_digits a ≡ true → all_ascii_digits b ≡ true → EndsDigits x → EndsDigits y → a ++ x ≡ b ++ y → (a ≡ b) × (x ≡ y)
-one_cut [] [] x y p q m n e = (refl, e)
-one_cut [] (d ∷ b) x y p q m n e =
-    let f : EndsDigits (d ∷ (b ++ y)) = subst EndsDigits e m in
-    let bad : true ≡ false = sym (and_parts (is_ascii_digit d) (all_ascii_digits b) q).0 ∙ f in cc
-one_cut (c ∷ a) [] x y p q m n e =
-    let f : EndsDigits (c ∷ (a ++ x)) = subst EndsDigits (sym e) n in
-    let bad : true ≡ false = sym (and_parts (is_ascii_digit c) (all_ascii_digits a) p).0 ∙ f in cc
-one_cut (c ∷ a) (d ∷ b) x y p q m n e =
-    let rest = one_cut a b x y (and_parts (is_ascii_digit c) (all_ascii_digits a) p).1 (and_parts (is_ascii_digit d) (all_ascii_digits b) q).1 m n (ap (λ (t : List ℕ). drop 1 t) e) in
-    let head : c ≡ d = ap (λ (t : List ℕ). get_or t 0 0) e in
-    (ap (λ (h : ℕ). h ∷ a) head ∙ ap (λ (t : List ℕ). d ∷ t) rest.0, rest.1)
+one_cut a b x y p q m n e = cuts.one_cut a b x y p q (ends_decimal x m) (ends_decimal y n) e
 
 -- a number that stands there is what the digits are
 pub record IsNumberAt (text : List ℕ) (start end value n : ℕ) (rest : List ℕ) : Type 0 where
