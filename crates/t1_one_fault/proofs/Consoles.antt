@@ -20,15 +20,15 @@ pub record AreBytesNext (xs ys x : List ℕ) : Type 0 where
   pub are_bytes : AreBytes bytes
   pub rest_is : x ≡ console_line_of 0 bytes ++ more
 
-pub data Compared (xs ys x y : List ℕ) : Type 0 where
-  Same : xs ≡ ys → x ≡ y → Compared xs ys x y
-  Longer : AreBytesNext xs ys x → Compared xs ys x y
-  Shorter : AreBytesNext ys xs y → Compared xs ys x y
+pub data ConsolesCompared (xs ys x y : List ℕ) : Type 0 where
+  SameConsole : xs ≡ ys → x ≡ y → ConsolesCompared xs ys x y
+  LongerConsole : AreBytesNext xs ys x → ConsolesCompared xs ys x y
+  ShorterConsole : AreBytesNext ys xs y → ConsolesCompared xs ys x y
 
-none_is : (x : List ℕ) → console_lines_of [] ++ x ≡ x
+pub none_is : (x : List ℕ) → console_lines_of [] ++ x ≡ x
 none_is x = ap (λ (t : List ℕ). t ++ x) (no_console [] refl)
 
-front_is : (xs x : List ℕ) → 1 ≤ length xs → console_lines_of xs ++ x ≡ console_line_of 0 (take 32 xs) ++ (console_lines_of (drop 32 xs) ++ x)
+pub front_is : (xs x : List ℕ) → 1 ≤ length xs → console_lines_of xs ++ x ≡ console_line_of 0 (take 32 xs) ++ (console_lines_of (drop 32 xs) ++ x)
 front_is xs x some = ap (λ (t : List ℕ). t ++ x) (console_front xs some) ∙ append_assoc (console_line_of 0 (take 32 xs)) (console_lines_of (drop 32 xs)) x
 
 first_bytes : (ys x y : List ℕ) → 1 ≤ length ys → AreBytes ys → x ≡ console_lines_of ys ++ y → AreBytesNext [] ys x
@@ -66,15 +66,15 @@ later xs ys x first f =
       rest_is = f.rest_is;
     }
 
-later_both : (xs ys x y : List ℕ) → take 32 xs ≡ take 32 ys → Compared (drop 32 xs) (drop 32 ys) x y → Compared xs ys x y
-later_both xs ys x y first (Same rest e) = Same (joined xs ys first rest) e
-later_both xs ys x y first (Longer f) = Longer (later xs ys x first f)
-later_both xs ys x y first (Shorter f) = Shorter (later ys xs y (sym first) f)
+later_both : (xs ys x y : List ℕ) → take 32 xs ≡ take 32 ys → ConsolesCompared (drop 32 xs) (drop 32 ys) x y → ConsolesCompared xs ys x y
+later_both xs ys x y first (SameConsole rest e) = SameConsole (joined xs ys first rest) e
+later_both xs ys x y first (LongerConsole f) = LongerConsole (later xs ys x first f)
+later_both xs ys x y first (ShorterConsole f) = ShorterConsole (later ys xs y (sym first) f)
 
-runs_compared : (k : ℕ) (xs ys x y : List ℕ) → length xs ≤ 32 * k → AreBytes xs → AreBytes ys → console_lines_of xs ++ x ≡ console_lines_of ys ++ y → Compared xs ys x y
-runs_compared k [] [] x y l a b e = Same refl (sym (none_is x) ∙ (e ∙ none_is y))
-runs_compared k [] (v ∷ ys) x y l a b e = Longer (first_bytes (v ∷ ys) x y (omega arith) b (sym (none_is x) ∙ e))
-runs_compared k (u ∷ xs) [] x y l a b e = Shorter (first_bytes (u ∷ xs) y x (omega arith) a (sym (none_is y) ∙ sym e))
+runs_compared : (k : ℕ) (xs ys x y : List ℕ) → length xs ≤ 32 * k → AreBytes xs → AreBytes ys → console_lines_of xs ++ x ≡ console_lines_of ys ++ y → ConsolesCompared xs ys x y
+runs_compared k [] [] x y l a b e = SameConsole refl (sym (none_is x) ∙ (e ∙ none_is y))
+runs_compared k [] (v ∷ ys) x y l a b e = LongerConsole (first_bytes (v ∷ ys) x y (omega arith) b (sym (none_is x) ∙ e))
+runs_compared k (u ∷ xs) [] x y l a b e = ShorterConsole (first_bytes (u ∷ xs) y x (omega arith) a (sym (none_is y) ∙ sym e))
 runs_compared zero (u ∷ xs) (v ∷ ys) x y l a b e = absurd (omega (arith, l))
 runs_compared (suc k) (u ∷ xs) (v ∷ ys) x y l a b e =
     let us : List ℕ = u ∷ xs in
@@ -84,5 +84,5 @@ runs_compared (suc k) (u ∷ xs) (v ∷ ys) x y l a b e =
     (sym (front_is us x (omega arith)) ∙ (e ∙ front_is vs y (omega arith))) in
     later_both us vs x y one.0 (runs_compared k (drop 32 us) (drop 32 vs) x y (omega (arith, p, l)) (bytes_drop 32 us a) (bytes_drop 32 vs b) one.1)
 
-pub consoles_compared : (xs ys x y : List ℕ) → AreBytes xs → AreBytes ys → console_lines_of xs ++ x ≡ console_lines_of ys ++ y → Compared xs ys x y
+pub consoles_compared : (xs ys x y : List ℕ) → AreBytes xs → AreBytes ys → console_lines_of xs ++ x ≡ console_lines_of ys ++ y → ConsolesCompared xs ys x y
 consoles_compared xs ys x y = runs_compared (length xs) xs ys x y (omega arith)

@@ -21,10 +21,10 @@ pub record IsBlockNext (n : ℕ) (xs x : List ℕ) : Type 0 where
   pub zeros : (at : ℕ) → 32 * number ≤ 32 * n + at → get_or xs at 0 ≡ 0
   pub rest_is : x ≡ block_line_of (32 * number) block ++ more
 
-pub data Compared (n : ℕ) (xs ys x y : List ℕ) : Type 0 where
-  Same : xs ≡ ys → x ≡ y → Compared n xs ys x y
-  Longer : IsBlockNext n xs x → Compared n xs ys x y
-  Shorter : IsBlockNext n ys y → Compared n xs ys x y
+pub data ImagesCompared (n : ℕ) (xs ys x y : List ℕ) : Type 0 where
+  SameImage : xs ≡ ys → x ≡ y → ImagesCompared n xs ys x y
+  LongerImage : IsBlockNext n xs x → ImagesCompared n xs ys x y
+  ShorterImage : IsBlockNext n ys y → ImagesCompared n xs ys x y
 
 -- ---- zeros
 
@@ -104,14 +104,14 @@ later n xs x long f =
       rest_is = f.rest_is;
     }
 
-later_both : (n : ℕ) (xs ys x y : List ℕ) → 32 ≤ length xs → 32 ≤ length ys → take 32 xs ≡ take 32 ys → Compared (n + 1) (drop 32 xs) (drop 32 ys) x y → Compared n xs ys x y
-later_both n xs ys x y l m first (Same rest e) = Same (joined xs ys first rest) e
-later_both n xs ys x y l m first (Longer f) = Longer (later n xs x l f)
-later_both n xs ys x y l m first (Shorter f) = Shorter (later n ys y m f)
+later_both : (n : ℕ) (xs ys x y : List ℕ) → 32 ≤ length xs → 32 ≤ length ys → take 32 xs ≡ take 32 ys → ImagesCompared (n + 1) (drop 32 xs) (drop 32 ys) x y → ImagesCompared n xs ys x y
+later_both n xs ys x y l m first (SameImage rest e) = SameImage (joined xs ys first rest) e
+later_both n xs ys x y l m first (LongerImage f) = LongerImage (later n xs x l f)
+later_both n xs ys x y l m first (ShorterImage f) = ShorterImage (later n ys y m f)
 
-blocks_compared : (k n : ℕ) (xs ys x y : List ℕ) → length xs ≡ 32 * k → length ys ≡ 32 * k → 32 * (n + k) ≤ 2 ^ 40 → AreBytes xs → AreBytes ys → lines_at n k xs ++ x ≡ lines_at n k ys ++ y → Compared n xs ys x y
+blocks_compared : (k n : ℕ) (xs ys x y : List ℕ) → length xs ≡ 32 * k → length ys ≡ 32 * k → 32 * (n + k) ≤ 2 ^ 40 → AreBytes xs → AreBytes ys → lines_at n k xs ++ x ≡ lines_at n k ys ++ y → ImagesCompared n xs ys x y
 blocks_compared zero n xs ys x y l m room a b e =
-    Same (nil_from_length xs (omega (arith, l)) ∙ sym (nil_from_length ys (omega (arith, m)))) (sym (none_at n xs x) ∙ (e ∙ none_at n ys y))
+    SameImage (nil_from_length xs (omega (arith, l)) ∙ sym (nil_from_length ys (omega (arith, m)))) (sym (none_at n xs x) ∙ (e ∙ none_at n ys y))
 blocks_compared (suc k) n xs ys x y l m room a b e =
     let p = length-drop 32 xs in
     let q = length-drop 32 ys in
@@ -122,10 +122,10 @@ blocks_compared (suc k) n xs ys x y l m room a b e =
     elim (cases_Bool (is_blank (take 32 xs))) [
       | inl z ↦ elim (cases_Bool (is_blank (take 32 ys))) [
         | inl w ↦ long (blank_same (take 32 xs) (take 32 ys) (omega (arith, f, g, l, m)) z w) (rest (sym (blank_front n k xs x z) ∙ (e ∙ blank_front n k ys y w)))
-        | inr w ↦ Longer (blank_here k n xs ys x y room l m b z w e)
+        | inr w ↦ LongerImage (blank_here k n xs ys x y room l m b z w e)
       ]
       | inr z ↦ elim (cases_Bool (is_blank (take 32 ys))) [
-        | inl w ↦ Shorter (blank_here k n ys xs y x room m l a w z (sym e))
+        | inl w ↦ ShorterImage (blank_here k n ys xs y x room m l a w z (sym e))
         | inr w ↦
             let one = block_cut (32 * n) (take 32 xs) (take 32 ys) (lines_at (n + 1) k (drop 32 xs) ++ x) (lines_at (n + 1) k (drop 32 ys) ++ y) (bytes_take 32 xs a) (bytes_take 32 ys b)
             (sym (some_front n k xs x z) ∙ (e ∙ some_front n k ys y w)) in
@@ -134,7 +134,7 @@ blocks_compared (suc k) n xs ys x y l m room a b e =
     ]
 
 -- memories of one length
-pub images_compared : (xs ys x y : List ℕ) → length xs ≡ length ys → length xs % 32 ≡ 0 → length xs ≤ 2 ^ 40 → AreBytes xs → AreBytes ys → image_lines_of xs ++ x ≡ image_lines_of ys ++ y → Compared 0 xs ys x y
+pub images_compared : (xs ys x y : List ℕ) → length xs ≡ length ys → length xs % 32 ≡ 0 → length xs ≤ 2 ^ 40 → AreBytes xs → AreBytes ys → image_lines_of xs ++ x ≡ image_lines_of ys ++ y → ImagesCompared 0 xs ys x y
 images_compared xs ys x y same whole most a b e =
     let k : ℕ = length xs / 32 in
     let n : length ys / 32 ≡ k = omega (arith, same) in

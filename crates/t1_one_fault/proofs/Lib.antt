@@ -1,4 +1,4 @@
 mod Lists
 mod Images
 mod Consoles
-mod Forms
+mod Lines

@@ -13,10 +13,10 @@ pub record GoesOn {A : Type 0} (line : ℕ → A → List ℕ) (P : ℕ → A �
   pub good : P number one
   pub rest_is : x ≡ line number one ++ (lines_from line (number + 1) more ++ y)
 
-pub data Compared {A : Type 0} (line : ℕ → A → List ℕ) (P : ℕ → A → Type 0) (n : ℕ) (xs ys : List A) (x y : List ℕ) : Type 0 where
-  Same : xs ≡ ys → x ≡ y → Compared line P n xs ys x y
-  Longer : GoesOn line P n xs ys x y → Compared line P n xs ys x y
-  Shorter : GoesOn line P n ys xs y x → Compared line P n xs ys x y
+pub data ListsCompared {A : Type 0} (line : ℕ → A → List ℕ) (P : ℕ → A → Type 0) (n : ℕ) (xs ys : List A) (x y : List ℕ) : Type 0 where
+  Same : xs ≡ ys → x ≡ y → ListsCompared line P n xs ys x y
+  Longer : GoesOn line P n xs ys x y → ListsCompared line P n xs ys x y
+  Shorter : GoesOn line P n ys xs y x → ListsCompared line P n xs ys x y
 
 -- from the first element on
 first_more : {A : Type 0} (line : ℕ → A → List ℕ) (P : ℕ → A → Type 0) (n : ℕ) (b : A) (ys : List A) (x y : List ℕ) → P n b → x ≡ (line n b ++ lines_from line (n + 1) ys) ++ y → GoesOn line P n [] (b ∷ ys) x y
@@ -42,13 +42,13 @@ behind_one line P n a b xs ys x y same g = record {
   rest_is = g.rest_is;
 }
 
-compared_more : {A : Type 0} (line : ℕ → A → List ℕ) (P : ℕ → A → Type 0) (n : ℕ) (a b : A) (xs ys : List A) (x y : List ℕ) → a ≡ b → Compared line P (n + 1) xs ys x y → Compared line P n (a ∷ xs) (b ∷ ys) x y
+compared_more : {A : Type 0} (line : ℕ → A → List ℕ) (P : ℕ → A → Type 0) (n : ℕ) (a b : A) (xs ys : List A) (x y : List ℕ) → a ≡ b → ListsCompared line P (n + 1) xs ys x y → ListsCompared line P n (a ∷ xs) (b ∷ ys) x y
 compared_more line P n a b xs ys x y same (Same rest e) = Same (λ i. same i ∷ rest i) e
 compared_more line P n a b xs ys x y same (Longer g) = Longer (behind_one line P n a b xs ys x y same g)
 compared_more line P n a b xs ys x y same (Shorter g) = Shorter (behind_one line P n b a ys xs y x (sym same) g)
 
 pub compared : {A : Type 0} (line : ℕ → A → List ℕ) (P : ℕ → A → Type 0) → Cuts line P → (n : ℕ) (xs ys : List A) (x y : List ℕ) → Each P n xs → Each P n ys → lines_from line n xs ++ x ≡ lines_from line n ys ++ y
-    → Compared line P n xs ys x y
+    → ListsCompared line P n xs ys x y
 unfolding lines_from
 compared line P cuts n [] [] x y p q e = Same refl e
 compared line P cuts n [] (b ∷ ys) x y p q e = Longer (first_more line P n b ys x y q.0 e)
