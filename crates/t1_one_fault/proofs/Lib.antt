@@ -2,3 +2,5 @@ mod Lists
 mod Images
 mod Consoles
 mod Lines
+mod Next
+mod Tails
