@@ -4,3 +4,4 @@ mod Consoles
 mod Lines
 mod Next
 mod Tails
+mod Strands
