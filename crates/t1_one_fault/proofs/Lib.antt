@@ -5,3 +5,5 @@ mod Lines
 mod Next
 mod Tails
 mod Strands
+mod Parts
+mod Faults

@@ -62,7 +62,7 @@ open_part config image traces i j l m o p c d x y open_is none nothing f g e =
     by (Longer n) = FirstGoes (item_next config image traces i j l o c x y open_is n)
     by (Shorter n) = OtherGoes (item_next config image traces j i m p d y x open_is n)
 
-items_empty : (traces : List Trace) (items : List Item) (x : List ℕ) → items ≡ [] → items_of_next traces items x ≡ x
+pub items_empty : (traces : List Trace) (items : List Item) (x : List ℕ) → items ≡ [] → items_of_next traces items x ≡ x
 unfolding lines_from
 items_empty traces items x e = ap (λ (xs : List Item). items_of_next traces xs x) e
 
