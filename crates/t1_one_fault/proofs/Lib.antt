@@ -6,4 +6,6 @@ mod Next
 mod Tails
 mod Strands
 mod Parts
+mod Firsts
 mod Faults
+mod Ones

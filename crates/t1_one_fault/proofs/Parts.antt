@@ -32,7 +32,7 @@ use Rattle.t1_one_fault.proofs.Strands.{items_of_next, items_empty, none_open, t
 -- ---- blocks
 
 -- what is behind the image
-abbrev behind : Report → List Item → List ℕ → List ℕ
+abbrev pub behind : Report → List Item → List ℕ → List ℕ
 behind report items x = lines_from trace_lines_of 0 report.traces ++ items_of_next report.traces items (tail_of report.log report.order report.console x)
 
 no_traces : (traces : List Trace) (ram : ℕ) (rest : List ℕ) → All (IsGoodTrace ram) traces → get_or (lines_from trace_lines_of 0 traces ++ rest) 0 0 ≡ 109 → traces ≡ []
@@ -88,19 +88,19 @@ block_next report items x f n =
 
 -- ---- the head
 
-deep : (h t i l o c x : List ℕ) → (h ++ (t ++ (i ++ (l ++ (o ++ c))))) ++ x ≡ h ++ (t ++ (i ++ (l ++ (o ++ (c ++ x)))))
+pub deep : (h t i l o c x : List ℕ) → (h ++ (t ++ (i ++ (l ++ (o ++ c))))) ++ x ≡ h ++ (t ++ (i ++ (l ++ (o ++ (c ++ x)))))
 deep h t i l o c x = simp append_assoc
 
-abbrev behind_config : Report → List Item → List ℕ → List ℕ
+abbrev pub behind_config : Report → List Item → List ℕ → List ℕ
 behind_config report items x = entry_line_of report.image.entry ++ (image_lines_of report.image.ram ++ behind report items x)
 
-within_text : (report : Report) (items : List Item) (x : List ℕ) → text_so_far (Within report items) ++ x ≡ version_line ++ (config_line_of report.config ++ behind_config report items x)
+pub within_text : (report : Report) (items : List Item) (x : List ℕ) → text_so_far (Within report items) ++ x ≡ version_line ++ (config_line_of report.config ++ behind_config report items x)
 within_text report items x =
     deep (head_lines_of version_line report.config report.image) (lines_from trace_lines_of 0 report.traces) (lines_from (item_line_of (length report.traces)) 0 items)
     (lines_from commit_line_of 0 report.log) (order_lines_of report.order) (console_lines_of report.console) x
     ∙ head_parts report.config report.image (behind report items x)
 
-entry_text : (config : Config) (x : List ℕ) → text_so_far (AtEntry config) ++ x ≡ version_line ++ (config_line_of config ++ x)
+pub entry_text : (config : Config) (x : List ℕ) → text_so_far (AtEntry config) ++ x ≡ version_line ++ (config_line_of config ++ x)
 entry_text config x = append_assoc version_line (config_line_of config) x
 
 config_next : (config : Config) (x more : List ℕ) → IsTrue (is_in_limits config) → x ≡ config_line_of config ++ more → IsGoodNext AtConfig x
