@@ -1,7 +1,7 @@
 -- A good line ends with its one line feed, and has the form of its kind.
-use Rattle.std.proofs.Common.{◌≡◌, ℕ, suc, ◌+◌, ◌*◌, ◌^◌, ◌<◌, ◌≤◌, true, false, Bool, eqb, List, [], ◌∷◌, ◌++◌, drop, get_or, length, codes, decimal, IsTrue, Option, Some, None, refl, sym, ap, subst, ◌∙◌, append_assoc, inl, inr, arith}
+use Rattle.std.proofs.Common.{◌≡◌, ℕ, ◌*◌, ◌^◌, ◌<◌, ◌≤◌, true, false, Bool, eqb, List, [], ◌∷◌, ◌++◌, codes, decimal, IsTrue, Option, Some, refl, sym, ap, subst, ◌∙◌, append_assoc, inl, inr, arith}
 use Rattle.std.proofs.Math.Nat.{mul-le-mul}
-use Rattle.std.proofs.lemmas.Bool.{cases_Bool, and_parts, leb-true, eq-eqb}
+use Rattle.std.proofs.lemmas.Bool.{cases_Bool, and_parts, leb-true}
 use Rattle.t1_event.specs.declared.item.How.{How}
 use Rattle.t1_event.specs.declared.item.How.TheVariants as how
 use Rattle.t1_event.specs.declared.item.Item.{Item}
@@ -13,7 +13,7 @@ use Rattle.t1_event.specs.declared.trace.Ending.{Ending}
 use Rattle.t1_event.specs.Kinds.{is_access}
 use Rattle.t1_event.specs.Items.{items_of}
 use Rattle.t1_log.specs.Hex.{hex_of, hex_of_bytes}
-use Rattle.t1_log.specs.Lines.{item_fields_of, config_line_of, entry_line_of, block_line_of, ending_fields_of, ending_line_of, place_line_of, end_line}
+use Rattle.t1_log.specs.Lines.{item_fields_of, config_line_of, entry_line_of, block_line_of, ending_fields_of, ending_line_of, place_line_of}
 use Rattle.t1_log.specs.Log.{place_fields_of, way_field_of, evicted_field_of, kill_fields_of, item_line_of, commit_head_of, commit_line_of, console_line_of}
 use Rattle.t1_line_forms.specs.declared.line.Line.{Line}
 use Rattle.t1_line_forms.specs.declared.line.Line.TheVariants as line
@@ -21,9 +21,9 @@ use Rattle.t1_line_forms.specs.Forms.{HasForm}
 use Rattle.t1_line_forms.specs.Words.{IsWord, AreConfigWords, ArePlaceWords, AreCommitWords}
 use Rattle.t1_line_forms.proofs.Printed.{config_form, entry_form, block_form, item_form, end_form, commit_line_form, order_form, console_form, last_form}
 use Rattle.t1_line_forms.proofs.Feeds.{is_one_line, one_line}
-use Rattle.t1_take.specs.Items.{IsPlaceOf, IsGoodItem}
+use Rattle.t1_take.specs.Items.{IsPlaceOf}
 use Rattle.t1_take.specs.Limits.{is_in_limits}
-use Rattle.t1_take.specs.WellFormed.{IsGoodWay, IsGoodCommit, IsNamed, IsGoodPlace}
+use Rattle.t1_take.specs.WellFormed.{IsGoodWay, IsGoodCommit, IsNamed}
 use Rattle.t1_take.proofs.HeadTexts.{numbers_small}
 use Rattle.t1_read.specs.Faults.{SoFar, AtConfig, AtEntry, Within, IsGoodSoFar, IsInRange, MayFollow, IsGoodLine, feeds}
 use Rattle.t1_read.proofs.Printed.{item_has_text}

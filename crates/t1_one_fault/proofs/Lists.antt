@@ -1,5 +1,5 @@
 -- Two lists of lines in one text are one, or one of them goes on where the other ends.
-use Rattle.std.proofs.Common.{◌≡◌, ℕ, suc, ◌+◌, List, [], ◌∷◌, ◌++◌, length, refl, sym, ◌∙◌, append_assoc, arith}
+use Rattle.std.proofs.Common.{◌≡◌, ℕ, ◌+◌, List, [], ◌∷◌, ◌++◌, length, refl, sym, ◌∙◌, append_assoc, arith}
 use Rattle.t1_log.specs.Texts.{lines_from}
 use Rattle.t1_one_text.proofs.Lists.{Each, Cuts}
 

@@ -1,7 +1,6 @@
 -- The first line at fault of a text is one, and a log has none.
-use Rattle.std.proofs.Common.{◌≡◌, ℕ, suc, ◌+◌, ◌*◌, ◌<◌, ◌⊎◌, List, [], ◌∷◌, ◌++◌, length, codes, refl, sym, ap, subst, ◌∙◌, append_assoc, inl, inr, arith}
+use Rattle.std.proofs.Common.{◌≡◌, ℕ, ◌⊎◌, List, [], ◌++◌, length, codes, refl, sym, ap, subst, ◌∙◌, inl, inr, arith}
 use Rattle.std.proofs.lemmas.List.{length-append}
-use Rattle.t1_event.specs.declared.item.Item.{Item}
 use Rattle.t1_event.specs.declared.report.Report.{Report}
 use Rattle.t1_log.specs.Lines.{config_line_of, end_line}
 use Rattle.t1_log.specs.Log.{version_line, item_line_of, trace_lines_of, commit_line_of, console_lines_of, text_of}
@@ -17,9 +16,9 @@ use Rattle.t1_read.specs.declared.error.LogError.{LogError}
 use Rattle.t1_read.specs.Exact.{HasBytes}
 use Rattle.t1_read.specs.Faults.{SoFar, AtConfig, AtEntry, Within, text_so_far, IsGoodSoFar, IsInRange, MayFollow, feeds, IsOfOtherVersion, IsFaultOf}
 use Rattle.t1_one_fault.proofs.Firsts.{first_cut, whole_line}
-use Rattle.t1_one_fault.proofs.Next.{IsGoodNext, Parted, One, FirstGoes, OtherGoes}
+use Rattle.t1_one_fault.proofs.Next.{Parted, One, FirstGoes, OtherGoes}
 use Rattle.t1_one_fault.proofs.Parts.{deep, behind_config, within_text, entry_text, parted}
-use Rattle.t1_one_fault.proofs.Faults.{IsRefused, IsOver, Ended, Further, IsAt, Refused, Over, IsFault, Other, NoneWhole, At, fault_of, next_no_last, next_not_at, refused_no_last, refused_not_over}
+use Rattle.t1_one_fault.proofs.Faults.{IsRefused, Ended, Further, IsAt, Refused, Over, IsFault, Other, NoneWhole, At, fault_of, next_no_last, next_not_at, refused_no_last, refused_not_over}
 
 -- ---- the version line
 

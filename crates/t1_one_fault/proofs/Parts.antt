@@ -1,11 +1,9 @@
 -- Good lines that were read from one text are one, or a good line stands next behind the fewer.
-use Rattle.std.proofs.Common.{◌≡◌, ℕ, ◌+◌, ◌*◌, ◌%◌, ◌^◌, ◌<◌, ◌≤◌, ◌⊎◌, List, [], ◌∷◌, ◌++◌, length, get_or, All, IsTrue, refl, sym, ap, subst, ◌∙◌, append_assoc, inl, inr, arith}
+use Rattle.std.proofs.Common.{◌≡◌, ℕ, ◌+◌, ◌*◌, ◌%◌, List, [], ◌∷◌, ◌++◌, length, get_or, All, IsTrue, refl, sym, ap, subst, ◌∙◌, append_assoc, arith}
 use Rattle.t1_elf.specs.declared.object.Image.{Image}
 use Rattle.t1_event.specs.declared.item.Item.{Item}
 use Rattle.t1_event.specs.declared.trace.Trace.{Trace}
-use Rattle.t1_event.specs.declared.commit.Commit.{Commit}
 use Rattle.t1_event.specs.declared.report.Config.{Config}
-use Rattle.t1_event.specs.declared.report.Place.{Place}
 use Rattle.t1_event.specs.declared.report.Report.{Report}
 use Rattle.t1_event.specs.Printable.{FitsDigits}
 use Rattle.t1_log.specs.Lines.{config_line_of, entry_line_of, block_line_of}
@@ -16,7 +14,7 @@ use Rattle.t1_take.specs.Items.{IsGoodTrace}
 use Rattle.t1_take.specs.Limits.{is_in_limits}
 use Rattle.t1_take.proofs.HeadTexts.{numbers_small}
 use Rattle.t1_take.proofs.Leaving.{item_first}
-use Rattle.t1_read.specs.Faults.{SoFar, AtConfig, AtEntry, Within, text_so_far, IsOpen, IsClosed, IsInRange, IsGoodSoFar}
+use Rattle.t1_read.specs.Faults.{SoFar, AtConfig, AtEntry, Within, text_so_far, IsOpen, IsInRange, IsGoodSoFar}
 use Rattle.t1_read.specs.Standing.{so_far}
 use Rattle.t1_read.proofs.HeadStands.{small_ram, whole_ram, some_strand}
 use Rattle.t1_read.proofs.ImageFound.{block_first}

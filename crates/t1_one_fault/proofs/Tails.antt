@@ -1,5 +1,5 @@
 -- Where the commits, the memory orders and the consoles of one text part.
-use Rattle.std.proofs.Common.{◌≡◌, ℕ, ◌+◌, ◌*◌, ◌%◌, ◌^◌, ◌<◌, ◌≤◌, List, [], ◌∷◌, ◌++◌, length, get_or, All, refl, sym, ap, subst, ◌∙◌, append_assoc, arith}
+use Rattle.std.proofs.Common.{◌≡◌, ℕ, ◌+◌, ◌*◌, ◌^◌, ◌<◌, List, [], ◌∷◌, ◌++◌, get_or, All, refl, sym, ap, subst, ◌∙◌, append_assoc, arith}
 use Rattle.t1_num.specs.MemoryLaws.{AreBytes}
 use Rattle.t1_elf.specs.declared.object.Image.{Image}
 use Rattle.t1_event.specs.declared.item.Item.{Item}
@@ -13,7 +13,7 @@ use Rattle.t1_log.specs.Lines.{place_line_of}
 use Rattle.t1_log.specs.Log.{commit_line_of, console_line_of, console_lines_of}
 use Rattle.t1_log.specs.Texts.{lines_from, blocks_from, order_lines_of}
 use Rattle.t1_line_forms.specs.declared.line.Line.TheVariants as line
-use Rattle.t1_take.specs.WellFormed.{AreGoodCommits, IsNamed, IsGoodPlace}
+use Rattle.t1_take.specs.WellFormed.{IsNamed, IsGoodPlace}
 use Rattle.t1_take.proofs.HeadTexts.{numbers_small}
 use Rattle.t1_take.proofs.Leaving.{place_first, commit_first}
 use Rattle.t1_read.specs.Faults.{IsClosed, IsInRange}
