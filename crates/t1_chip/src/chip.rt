@@ -1,5 +1,5 @@
 //! The chip.
-ghost use Rattle.std.specs.Prelude.{ℕ, ◌≡◌, ◌+◌, ◌<◌, ◌≤◌, length, IfSome, IfOk, IsTrue, ◌↔◌, Some, None, true, false};
+ghost use Rattle.std.specs.Prelude.{ℕ, ◌≡◌, ◌+◌, ◌<◌, ◌≤◌, length, All, IfSome, IfOk, IsTrue, ◌↔◌, Some, None, true, false};
 ghost use Rattle.t1_num.specs.MemoryLaws.{AreBytes};
 ghost use Rattle.t1_shape.specs.Shapes.Shape.{T1};
 ghost use Rattle.t1_machine.specs.declared.schedule.Schedule.TheVariants as schedule;
@@ -12,9 +12,10 @@ ghost use Rattle.t1_machine.specs.Start.{IsRunnable, setup_of, machine_start};
 ghost use Rattle.t1_bound.specs.Weights.{machine_weight, steps};
 ghost use Rattle.t1_machine_rule.specs.Stands.{Stands};
 ghost use Rattle.t1_machine_rule.specs.Ends.{NoneEnabled, Ends, Reports};
+ghost use Rattle.t1_machine_rule.specs.Words.{AreWords};
 ghost use Rattle.t1_chip.specs.Chips.{ChipState, is_done, after_found, wrapped, MovesTo, RunsToEnd, Reported};
 
-use crate::report::{Room, put_console, put_traces, room_for};
+use crate::report::{Room, are_words, put_console, put_traces, room_for};
 use crate::slot_set::{ALL, with_woken, without_slot};
 use rand_core::SeedableRng;
 use rand_core::utils::NextWord;
@@ -234,12 +235,13 @@ impl Chip {
 
     /// The report of a run in which no slot is enabled any more: the traces of all strands, core by core,
     /// and the log, which are a joint history, the memory order, which obeys total store order, and the
-    /// bytes that reached the console. Takes no memory.
+    /// bytes that reached the console. Its units and PCs are words of 32 and of 64 bits. Takes no memory.
     pub fn into_report(self) -> Report
         requires { NoneEnabled self.machine }
         ensures report { Reported self result }
         ensures history { Ends self.setup self.machine }
         ensures obeys { Reports self.setup self.machine result.order }
+        ensures words { All AreWords result.traces }
     {
         self.ends();
         let Chip {
@@ -256,6 +258,7 @@ impl Chip {
         } = room;
         let (cores, log) = machine.into_parts();
         put_traces(cores, &mut traces);
+        are_words(traces.as_slice());
         order_of(&traces, &log, &mut order);
         put_console(&log, &mut console);
         Report {

@@ -1,7 +1,8 @@
 //! What a finished chip reports, in room that was made for it.
-ghost use Rattle.std.specs.Prelude.{◌≡◌, ◌≤◌, ◌+◌, ◌*◌, ◌++◌, length, vec_len, vec_capacity, IfOk};
+ghost use Rattle.std.specs.Prelude.{◌≡◌, ◌≤◌, ◌+◌, ◌*◌, ◌++◌, length, All, vec_len, vec_capacity, IfOk};
 ghost use Rattle.t1_iob.specs.Console.{console_of};
 ghost use Rattle.t1_machine_rule.specs.Parts.{traces_in};
+ghost use Rattle.t1_machine_rule.specs.Words.{AreWords};
 ghost use Rattle.t1_chip.specs.Rooms.{IsRoomFor};
 
 use std::alloc::{AllocError, Global};
@@ -53,6 +54,23 @@ pub(crate) fn put_traces(cores: Vec<Core>, out: &mut Vec<Trace>)
 {
     for core in cores {
         put_core(core.into_traces(), out);
+    }
+}
+
+/// The units and the PC of a trace are words of 32 and of 64 bits.
+fn is_of_words(trace: &Trace)
+    ensures { AreWords trace.now }
+{
+    let _units = trace.units;
+    let _pc = trace.pc;
+}
+
+/// So are those of all traces.
+pub(crate) fn are_words(traces: &[Trace])
+    ensures { All AreWords traces.now }
+{
+    for trace in traces {
+        is_of_words(trace);
     }
 }
 

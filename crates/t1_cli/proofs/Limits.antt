@@ -11,7 +11,8 @@ use Rattle.t1_elf.specs.Parsed.{KeepsTo}
 use Rattle.t1_event.specs.declared.report.Config.{Config}
 use Rattle.t1_machine.specs.Start.{IsRunnable, setup_of}
 use Rattle.t1_cli.specs.declared.command.Reading.{Reading}
-use Rattle.t1_cli.specs.Words.{is_set_count, is_in_limits, read_next, ended, options_after}
+use Rattle.t1_cli.specs.Words.{read_next, ended, options_after}
+use Rattle.t1_take.specs.Limits.{is_set_count, is_in_limits}
 
 -- ---- limits
 
@@ -36,7 +37,6 @@ few_sets n =
 -- a machine within the limits, with an image of its RAM and an aligned entry, can be run
 pub runnable : (config : Config) (image : Image) → is_in_limits config ≡ true → length image.ram ≡ config.ram → image.entry % 4 ≡ 0
     → IsRunnable (setup_of config image)
-unfolding is_in_limits
 runnable config image h size entry =
     let cores : Bool = nat_le 1 config.cores && nat_le config.cores 8 in
     let strands : Bool = nat_le 1 config.strands && nat_le config.strands 4 in

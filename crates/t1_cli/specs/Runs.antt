@@ -19,6 +19,7 @@ use Rattle.t1_machine.specs.Runs.{machine_after, RunsTo}
 use Rattle.t1_machine.specs.Start.{setup_of, machine_start}
 use Rattle.t1_machine_rule.specs.Stands.{Stands}
 use Rattle.t1_machine_rule.specs.Ends.{Ends, Reports, report_of}
+use Rattle.t1_reads_back.specs.Laws.{ReadsBack}
 use Rattle.t1_log.specs.Log.{text_of}
 use Rattle.t1_log.specs.Brief.{brief_of}
 use Rattle.t1_cli.specs.declared.command.Run.{Run}
@@ -57,6 +58,8 @@ pub record IsReportOf (w : Setup) (schedule : Schedule) (report : Report) : Type
   pub ends : Ends w last
   -- the order lists each access once and obeys total store order
   pub obeys : Reports w last report.order
+  -- its log reads back as this report
+  pub reads_back : ReadsBack report
   -- after every list of slots the machine stands: its caches, with the packets in flight, are what the
   -- directories show, and each strand is its replay so far
   pub stands : (numbers : List ℕ) → Stands w (machine_after (machine_start w) numbers)

@@ -2,6 +2,7 @@
 use Rattle.std.specs.Prelude.{ℕ, ◌+◌, ◌*◌, ◌-◌, ◌%◌, ◌^◌, ◌≤◌, ◌==◌, ◌&&◌, ◌||◌, nat_le, nat_lt, not, Bool, true, false, IsTrue, List, [], ◌∷◌, length, codes, Option, Some, None, is_none, option_map, unwrap_or, if◌then◌else◌, ⊤}
 use Rattle.std.specs.Str.{bytes_eq}
 use Rattle.t1_event.specs.declared.report.Config.{Config}
+use Rattle.t1_take.specs.Limits.{is_in_limits}
 use Rattle.t1_cli.specs.declared.command.Command.{Command}
 use Rattle.t1_cli.specs.declared.command.Command.TheVariants as command
 use Rattle.t1_cli.specs.declared.command.Flag.{Flag}
@@ -99,20 +100,7 @@ options_after (Some reading) (word ∷ words) = options_after (read_next reading
 abbrev pub options_of : List (List ℕ) → Option Given
 options_of words = options_after (Some (record { given = none_given; waiting = None })) words
 
--- ---- limits
-
--- a power of two from 1 to 1024
-unfoldable pub is_set_count : ℕ → Bool
-is_set_count n =
-    (n == 1) || ((n == 2) || ((n == 4) || ((n == 8) || ((n == 16) || ((n == 32) || ((n == 64) || ((n == 128) || ((n == 256) || ((n == 512) || (n == 1024))))))))))
-
--- 1 to 8 cores of 1 to 4 strands, RAM of 64 KiB to 256 MiB in steps of 64 KiB, and at most 1,000,000 units of all strands
-unfoldable pub is_in_limits : Config → Bool
-is_in_limits config =
-    (nat_le 1 config.cores && nat_le config.cores 8) && ((nat_le 1 config.strands && nat_le config.strands 4)
-    && ((nat_le 65536 config.ram && (nat_le config.ram 268435456 && (config.ram % 65536 == 0)))
-    && (is_set_count config.sets
-    && (nat_le 1 config.budget && (nat_le config.budget 1000000 && nat_le (config.budget * (config.cores * config.strands)) 1000000)))))
+-- ---- the machine
 
 -- the machine that is asked for, with what stands where an option is not given
 abbrev pub config_of : Given → Config

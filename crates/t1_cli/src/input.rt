@@ -8,7 +8,7 @@ ghost use Rattle.t1_machine.specs.Start.{IsRunnable, setup_of};
 ghost use Rattle.t1_cli.specs.Runs.{IsImageOfInput};
 ghost use Rattle.t1_cli.specs.Serial.{WasLeft};
 ghost use Rattle.t1_cli.specs.Verdict.{OfInput, IsRefusal, IsUnread, IsUnloaded};
-ghost use Rattle.t1_cli.specs.Words.{is_in_limits};
+ghost use Rattle.t1_take.specs.Limits.{is_in_limits};
 
 use crate::refusal::Refusal;
 use crate::verdict::Verdict;

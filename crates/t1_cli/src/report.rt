@@ -1,5 +1,5 @@
 //! The report of the run of an image, and its text.
-ghost use Rattle.std.specs.Prelude.{◌≡◌, ◌≢◌, ◌<◌, ◌^◌, IfOk, OnOk, OnErr};
+ghost use Rattle.std.specs.Prelude.{◌≡◌, ◌≢◌, ◌<◌, ◌^◌, IfOk, IsTrue, OnOk, OnErr};
 ghost use Rattle.t1_num.specs.MemoryLaws.{AreBytes};
 ghost use Rattle.t1_io.specs.Causes.{HasCause, Rose};
 ghost use Rattle.t1_io.specs.Held.{Grew, GrewPart};
@@ -9,6 +9,7 @@ ghost use Rattle.t1_cli.specs.Runs.{IsReportOf, by_schedule, printed_of};
 ghost use Rattle.t1_cli.specs.Serial.{HasNoText};
 ghost use Rattle.t1_cli.specs.Statuses.{status_of_verdict};
 ghost use Rattle.t1_cli.specs.Verdict.{Judged};
+ghost use Rattle.t1_take.specs.Limits.{is_in_limits};
 
 use crate::command::Run;
 use crate::ended::ended;
@@ -35,6 +36,7 @@ fn run_image(
     schedule: Schedule,
     image: Image,
 ) -> Result<Report, AllocError>
+    requires limits { IsTrue (is_in_limits config) }
     requires runnable { IsRunnable (setup_of config image) }
     requires entry { image.entry < 2 ^ 40 }
     ensures report { IfOk result (IsReportOf (setup_of config image) schedule) }
@@ -76,6 +78,7 @@ pub fn write_report<K: Sink>(report: &Report, brief: bool, out: &mut K) -> Verdi
 
 /// Writes what comes of the run of an image. No memory is taken after the first step of the run.
 pub(crate) fn write_run<K: Sink>(alloc: Global, run: &Run, image: Image, out: &mut K) -> Verdict
+    requires limits { IsTrue (is_in_limits run.now.config) }
     requires runnable { IsRunnable (setup_of run.now.config image) }
     requires entry { image.entry < 2 ^ 40 }
     ensures judged { Judged (λ why. ⊥) (by_schedule run.now (setup_of run.now.config image)) (printed_of run.now.brief) (K.held out.old) (K.held out.new) result }

@@ -9,7 +9,8 @@ ghost use Rattle.t1_cli.specs.Statuses.{status_of_verdict};
 ghost use Rattle.t1_cli.specs.Headline.{ClaimsTask};
 ghost use Rattle.t1_cli.specs.Serial.{HasText, HasNoText, AnswersTask, ReadsNothing};
 ghost use Rattle.t1_cli.specs.Verdict.{OfInput, JudgedRun, Made, Checked, Guests, ServesTask, Tells};
-ghost use Rattle.t1_cli.specs.Words.{task_of, is_in_limits, IsTask};
+ghost use Rattle.t1_cli.specs.Words.{task_of, IsTask};
+ghost use Rattle.t1_take.specs.Limits.{is_in_limits};
 
 use crate::checks::write_verdict;
 use crate::command::{Run, Task};

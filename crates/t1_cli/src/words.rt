@@ -1,6 +1,7 @@
 //! The reader of the words.
 ghost use Rattle.std.specs.Prelude.{◌≡◌, ◌≤◌, ◌*◌, ◌%◌, ◌==◌, ◌&&◌, nat_le, map, string_bytes, IfSome, IsTrue};
-ghost use Rattle.t1_cli.specs.Words.{digits_from, number_of, flag_of, once, with_number, complete, begun, numbered, read_next, ended, options_of, is_set_count, is_in_limits, config_in_limits, config_of, has_no_machine, is_bare, run_command, live_command, bare_command, guest_command, command_named, command_of, schedule_of, task_of, IsCommand, IsTask};
+ghost use Rattle.t1_cli.specs.Words.{digits_from, number_of, flag_of, once, with_number, complete, begun, numbered, read_next, ended, options_of, config_in_limits, config_of, has_no_machine, is_bare, run_command, live_command, bare_command, guest_command, command_named, command_of, schedule_of, task_of, IsCommand, IsTask};
+ghost use Rattle.t1_take.specs.Limits.{is_ram, is_set_count, is_budget, is_in_limits};
 
 use crate::command::{Command, Flag, Given, Reading, Run, Task};
 use t1_event::Config;
@@ -184,7 +185,7 @@ fn read_options(words: &[String]) -> Option<Given>
 }
 
 /// Whether this many sets can be.
-#[tactic(auto, unfolding(crate::specs::Words::is_set_count))]
+#[tactic(auto, unfolding(t1_take::specs::Limits::is_set_count))]
 fn is_set_count(sets: u64) -> bool
     ensures value { result ≡ is_set_count sets }
     ensures fits { IsTrue result → sets ≤ 1024 }
@@ -204,7 +205,7 @@ fn is_set_count(sets: u64) -> bool
 
 /// Whether this much RAM can be.
 fn is_ram(ram: u64) -> bool
-    ensures { result ≡ (nat_le 65536 ram && (nat_le ram 268435456 && (ram % 65536 == 0))) }
+    ensures { result ≡ is_ram ram }
 {
     65_536 <= ram && (ram <= 268_435_456 && ram % 65_536 == 0)
 }
@@ -213,13 +214,12 @@ fn is_ram(ram: u64) -> bool
 fn is_budget(budget: u64, cores: u64, strands: u64) -> bool
     requires cores { cores ≤ 8 }
     requires strands { strands ≤ 4 }
-    ensures { result ≡ (nat_le 1 budget && (nat_le budget 1000000 && nat_le (budget * (cores * strands)) 1000000)) }
+    ensures { result ≡ is_budget budget (cores * strands) }
 {
     1 <= budget && (budget <= 1_000_000 && budget * (cores * strands) <= 1_000_000)
 }
 
 /// Whether the numbers of a machine are in their limits.
-#[tactic(auto, unfolding(crate::specs::Words::is_in_limits))]
 fn is_machine(cores: u64, strands: u64, ram: u64, sets: u64, budget: u64) -> bool
     ensures value { result ≡ is_in_limits (record { cores = cores; strands = strands; ram = ram; sets = sets; budget = budget }) }
     ensures fits { IsTrue result → (cores ≤ 8) × (strands ≤ 4) × (sets ≤ 1024) × (budget ≤ 1000000) }

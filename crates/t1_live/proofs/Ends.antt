@@ -40,6 +40,7 @@ ends_of config image s a g over =
       history = h;
       covered = (log_is_covered w traces s.crossbar.xbar.log h).0;
       lines = (log_is_covered w traces s.crossbar.xbar.log h).1;
+      commits = omega (arith, l);
       few = omega (arith, count);
       short = brief;
       orderable = joint_are_orderable w traces s.crossbar.xbar.log h few brief;

@@ -1,5 +1,5 @@
 -- What agents report that fit and are over.
-use Rattle.std.specs.Prelude.{◌≡◌, ◌≤◌, List, length}
+use Rattle.std.specs.Prelude.{◌≡◌, ◌^◌, ◌<◌, ◌≤◌, List, length}
 use Rattle.t1_event.specs.declared.commit.Commit.{Commit}
 use Rattle.t1_event.specs.declared.report.Place.{Place}
 use Rattle.t1_event.specs.declared.report.Report.{Report}
@@ -17,11 +17,13 @@ use Rattle.t1_machine.specs.Start.{most_commits}
 use Rattle.t1_machine_rule.specs.Parts.{traces_in}
 use Rattle.t1_live.specs.Whole.{AgentsState, cores_of}
 
--- their traces and log are a joint history, whose log is covered, and which can be listed by keys
+-- their traces and log are a joint history, whose log is covered and has fewer commits than a word of 32 bits counts,
+-- and which can be listed by keys
 pub record LiveEnds (w : Setup) (traces : List Trace) (log : List Commit) : Type 0 where
   pub history : IsJointHistory w traces log
   pub covered : IsCovered (run_of w traces log)
   pub lines : LinesHoldMemory (run_of w traces log)
+  pub commits : length log < 2 ^ 32
   pub few : length traces ≤ 64
   pub short : AreShort (items_of traces)
   pub orderable : AreOrderable (items_of traces) log

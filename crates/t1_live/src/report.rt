@@ -1,7 +1,8 @@
 //! What a run that is over reports, in room that was made for it.
-ghost use Rattle.std.specs.Prelude.{◌≡◌, ◌≤◌, ◌+◌, ◌*◌, ◌++◌, length, vec_len, vec_capacity, IfOk};
+ghost use Rattle.std.specs.Prelude.{◌≡◌, ◌≤◌, ◌+◌, ◌*◌, ◌++◌, length, All, vec_len, vec_capacity, IfOk};
 ghost use Rattle.t1_iob.specs.Console.{console_of};
 ghost use Rattle.t1_machine_rule.specs.Parts.{traces_in};
+ghost use Rattle.t1_machine_rule.specs.Words.{AreWords};
 ghost use Rattle.t1_crew.specs.Slots.{AreOver};
 ghost use Rattle.t1_live.specs.Rooms.{IsRoomFor};
 ghost use Rattle.t1_live.specs.Sides.{is_core_over};
@@ -63,6 +64,23 @@ fn put_traces(cores: Vec<CoreAgent>, out: &mut Vec<Trace>)
     }
 }
 
+/// The units and the PC of a trace are words of 32 and of 64 bits.
+fn is_of_words(trace: &Trace)
+    ensures { AreWords trace.now }
+{
+    let _units = trace.units;
+    let _pc = trace.pc;
+}
+
+/// So are those of all traces.
+fn are_words(traces: &[Trace])
+    ensures { All AreWords traces.now }
+{
+    for trace in traces {
+        is_of_words(trace);
+    }
+}
+
 /// Appends the bytes that the commits of a log put on the console, in order. Takes no memory.
 fn put_console(log: &[Commit], out: &mut Vec<u8>)
     requires { vec_len out.old + length log.now ≤ vec_capacity out.old }
@@ -88,7 +106,8 @@ impl Agents {
 
     /// The report of agents that fit and are over, with room for the console: the traces of all
     /// strands, core by core, and the log, which are a joint history, the memory order, which obeys
-    /// total store order, and the bytes that reached the console. Takes no memory.
+    /// total store order, and the bytes that reached the console. Its units and PCs are words of 32 and
+    /// of 64 bits. Takes no memory.
     pub fn into_report(self) -> Report
         requires over { AreOver is_core_over self.cores }
         requires fits { AreFitting self.setup self.cores self.dests self.crossbar }
@@ -96,6 +115,7 @@ impl Agents {
         ensures report { Reported self result }
         ensures history { LiveEnds self.setup (traces_in (cores_of self.cores)) self.crossbar.xbar.log }
         ensures obeys { LiveReports self result.order }
+        ensures words { All AreWords result.traces }
     {
         self.ends();
         let Agents {
@@ -113,6 +133,7 @@ impl Agents {
         } = room;
         let log = crossbar.into_log();
         put_traces(cores, &mut traces);
+        are_words(traces.as_slice());
         order_of(&traces, &log, &mut order);
         put_console(&log, &mut console);
         Report {

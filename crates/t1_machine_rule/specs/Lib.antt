@@ -5,3 +5,4 @@ pub mod SoFar
 pub mod Stands
 pub mod Ends
 pub mod Laws
+pub mod Words

@@ -41,7 +41,8 @@ use Rattle.t1_joint.proofs.Shapes.{items_shaped}
 use Rattle.t1_take.specs.Limits.{is_in_limits}
 use Rattle.t1_take.specs.Items.{IsSizeOf, IsReached, IsValueOf, IsPlaceOf, IsGoodItem, IsGoodEnd, IsGoodTrace}
 use Rattle.t1_take.specs.WellFormed.{IsGoodKill, IsGoodWay, IsGoodEvicted, IsGoodCommit, IsGoodPlace, IsWellFormed}
-use Rattle.t1_reads_back.specs.Laws.{AreWords, reported, JointHistoriesAreWellFormed}
+use Rattle.t1_machine_rule.specs.Words.{AreWords}
+use Rattle.t1_reads_back.specs.Laws.{reported, JointHistoriesAreWellFormed}
 use Rattle.t1_machine_rule.proofs.Texts.{IsSmallEnding, trace_ending}
 use Rattle.t1_reads_back.proofs.Blanks.{IsBarrierSize, trace_blank}
 use Rattle.t1_reads_back.proofs.Kills.{length-directory, good_at, ways_are, kills_good, none_filled_store, none_filled_swap, none_filled_cas}

@@ -2,4 +2,4 @@ mod Masks
 mod Blanks
 mod Kills
 mod Histories
-mod Machines
+pub mod Machines

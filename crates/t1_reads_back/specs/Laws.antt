@@ -15,14 +15,10 @@ use Rattle.t1_machine.specs.Machine.{MachineState}
 use Rattle.t1_machine_rule.specs.Parts.{traces_in}
 use Rattle.t1_machine_rule.specs.Stands.{IsRunOf}
 use Rattle.t1_machine_rule.specs.Ends.{NoneEnabled, report_of}
+use Rattle.t1_machine_rule.specs.Words.{AreWords}
 use Rattle.t1_take.specs.Limits.{is_in_limits}
 use Rattle.t1_take.specs.WellFormed.{IsWellFormed}
 use Rattle.t1_read.specs.Exact.{HasBytes}
-
--- the units and the PC of a trace are words of 32 and of 64 bits, as their types say
-pub record AreWords (trace : Trace) : Type 0 where
-  pub units : trace.units < 2 ^ 32
-  pub pc : trace.pc < 2 ^ 64
 
 -- the report of traces and a log, with an order and the console's bytes
 abbrev pub reported : Setup → List Trace → List Commit → List Place → List ℕ → Report

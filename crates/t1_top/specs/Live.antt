@@ -9,6 +9,7 @@ use Rattle.t1_crew.specs.Slots.{AreOver}
 use Rattle.t1_live.specs.Sides.{is_core_over}
 use Rattle.t1_live.specs.Whole.{AgentsState, AreFitting}
 use Rattle.t1_live.specs.Reports.{LiveEnds, report_of}
+use Rattle.t1_reads_back.specs.Laws.{ReadsBack}
 
 -- the agents of the machine came back with their parts fitting and every strand ended; the report has their traces,
 -- their log, the memory order and the console
@@ -25,3 +26,5 @@ pub record IsLiveReportOf (w : Setup) (report : Report) : Type 0 where
   -- the order lists each access once and obeys total store order
   pub listing : IsListing (items_of report.traces) report.order
   pub obeys : ObeysTso w.image.ram (items_of report.traces) report.order
+  -- its log reads back as this report
+  pub reads_back : ReadsBack report

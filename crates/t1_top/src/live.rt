@@ -8,7 +8,7 @@ ghost use Rattle.t1_log.specs.Log.{text_of};
 ghost use Rattle.t1_cli.specs.Serial.{HasText, HasNoText};
 ghost use Rattle.t1_cli.specs.Statuses.{status_of_verdict};
 ghost use Rattle.t1_cli.specs.Verdict.{OfInput, Judged, JudgedInput};
-ghost use Rattle.t1_cli.specs.Words.{is_in_limits};
+ghost use Rattle.t1_take.specs.Limits.{is_in_limits};
 ghost use Rattle.t1_top.specs.Live.{IsLiveReportOf};
 
 use std::alloc::{AllocError, Global};
@@ -30,6 +30,7 @@ fn run_agents<R: Threads + Wait + Sync, G: Gate + Sync>(
     image: Image,
     gate: &G,
 ) -> Result<Report, AllocError>
+    requires limits { IsTrue (is_in_limits config.now) }
     requires runnable { IsRunnable (setup_of config.now image) }
     requires entry { image.entry < 2 ^ 40 }
     ensures report { IfOk result (IsLiveReportOf (setup_of config.now image)) }
@@ -49,6 +50,7 @@ fn write_live<R: Threads + Wait + Sync, K: Sink, G: Gate + Sync>(
     out: &mut K,
     gate: &G,
 ) -> Verdict
+    requires limits { IsTrue (is_in_limits config.now) }
     requires runnable { IsRunnable (setup_of config.now image) }
     requires entry { image.entry < 2 ^ 40 }
     ensures judged { Judged (λ why. ⊥) (IsLiveReportOf (setup_of config.now image)) text_of (K.held out.old) (K.held out.new) result }

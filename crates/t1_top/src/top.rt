@@ -3,7 +3,8 @@ ghost use Rattle.std.specs.Prelude.{◌≡◌, ◌↔◌, map, string_bytes, Non
 ghost use Rattle.t1_io.specs.Causes.{Rose};
 ghost use Rattle.t1_cli.specs.Serial.{HasNoText};
 ghost use Rattle.t1_cli.specs.Verdict.{Tells};
-ghost use Rattle.t1_cli.specs.Words.{command_of, is_in_limits};
+ghost use Rattle.t1_cli.specs.Words.{command_of};
+ghost use Rattle.t1_take.specs.Limits.{is_in_limits};
 ghost use Rattle.t1_top.specs.Headline.{ClaimsCommand};
 ghost use Rattle.t1_top.specs.Top.{live_of, AnswersCommand, ReadsNoInput, ServesCommand};
 

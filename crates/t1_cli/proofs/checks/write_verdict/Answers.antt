@@ -1,5 +1,7 @@
-use Rattle.std.proofs.Common.{◌∙◌, sym}
+use Rattle.std.proofs.Common.{ℕ, List, ◌∙◌, inl, inr, refl, sym, ap, subst}
 use Rattle.t1_io.specs.Held.{Grew, GrewPart}
+use Rattle.t1_read.specs.declared.error.LogError.{LogError}
+use Rattle.t1_read.specs.Faults.{IsFaultOf}
 use Rattle.t1_read.proofs.Words.{can_be_checked}
 use Rattle.t1_cli.specs.Checks.{checked_line}
 use Rattle.t1_cli.proofs.Judging.{checked_so, went_well, went_wrong}
@@ -26,3 +28,18 @@ returns-in-Ok-check-clause-checked g c =
     (record { well_formed = c.in-Ok.ensures.formed; bytes = c.has_bytes.ensures; text = sym c.as_slice.ensures.value ∙ c.in-Ok.ensures.text }) c.in-Ok-check.ensures.names
     (went_well c.write_all.result (Grew (g.K.Sink.held c.args.out.now) (g.K.Sink.held c.write_all.new.sink) (checked_line c.in-Ok-check.judgement))
     (sym c.if-is_err.false ∙ c.is_err.ensures.value) (rw (c.as_slice-in-Ok-check.ensures ∙ c.checked_line.ensures) at c.write_all.ensures.all))
+
+-- a text that was refused is no log, and its first fault is named
+pub returns : goal.returns
+returns g c = record {
+  checked = (
+    λ report log. c.in_default.not-OutOfMemory (c.in-Err.ensures.exact report log.well_formed log.bytes (c.as_slice.ensures.value ∙ log.text)),
+    elim c.in-Err.ensures.fault [
+      | inl fault ↦ subst (λ (text : List ℕ). IsFaultOf text c.in-Err.error.line c.in-Err.error.kind) c.as_slice.ensures.value fault
+      | inr wanting ↦ absurd (c.in_default.not-OutOfMemory (ap (λ (e : LogError). e.kind) wanting))
+    ],
+  );
+  unchanged = λ _. refl;
+  fault = λ e. cc;
+  never = λ e. cc;
+}
