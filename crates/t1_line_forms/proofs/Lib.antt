@@ -5,3 +5,4 @@ pub mod Lines
 pub mod Numerals
 pub mod Printed
 pub mod Tails
+pub mod Feeds

@@ -65,7 +65,7 @@ unfolding blocks_from
 each_block n zero xs a = tt
 each_block n (suc k) xs a = (bytes_take 32 xs a, each_block (n + 1) k (drop 32 xs) (bytes_drop 32 xs a))
 
-runs_cut : Cuts console_line_of (λ (i : ℕ) (block : List ℕ). AreBytes block)
+pub runs_cut : Cuts console_line_of (λ (i : ℕ) (block : List ℕ). AreBytes block)
 unfolding console_line_of
 runs_cut n a b x y f g e =
     bytes_cut 0 a b x y (each_byte 0 a f) (each_byte 0 b g)

@@ -15,7 +15,7 @@ use Rattle.t1_one_text.proofs.Bytes.{bytes_cut}
 
 -- ---- one block
 
-block_cut : (addr : ℕ) (a b x y : List ℕ) → AreBytes a → AreBytes b → block_line_of addr a ++ x ≡ block_line_of addr b ++ y → (a ≡ b) × (x ≡ y)
+pub block_cut : (addr : ℕ) (a b x y : List ℕ) → AreBytes a → AreBytes b → block_line_of addr a ++ x ≡ block_line_of addr b ++ y → (a ≡ b) × (x ≡ y)
 unfolding block_line_of
 block_cut addr a b x y f g e =
     let after = past (hex_of 10 addr) _ _ x y (ap (drop 2) e) in
@@ -23,12 +23,12 @@ block_cut addr a b x y f g e =
     (sym (append_assoc (hex_of_bytes a) (codes "\n") x) ∙ (ap (drop 1) after ∙ append_assoc (hex_of_bytes b) (codes "\n") y))
 
 -- the address says which block it is
-addr_same : (addr other : ℕ) (a b x y : List ℕ) → addr < 2 ^ 40 → other < 2 ^ 40 → block_line_of addr a ++ x ≡ block_line_of other b ++ y → addr ≡ other
+pub addr_same : (addr other : ℕ) (a b x y : List ℕ) → addr < 2 ^ 40 → other < 2 ^ 40 → block_line_of addr a ++ x ≡ block_line_of other b ++ y → addr ≡ other
 unfolding block_line_of
 addr_same addr other a b x y l m e = (digits_cut 10 addr other _ _ x y l m (ap (drop 2) e)).0
 
 -- two blocks of zeros
-blank_same : (xs ys : List ℕ) → length xs ≡ length ys → is_blank xs ≡ true → is_blank ys ≡ true → xs ≡ ys
+pub blank_same : (xs ys : List ℕ) → length xs ≡ length ys → is_blank xs ≡ true → is_blank ys ≡ true → xs ≡ ys
 blank_same [] [] l f g = refl
 blank_same (x ∷ xs) [] l f g = absurd (omega (arith, l))
 blank_same [] (y ∷ ys) l f g = absurd (omega (arith, l))
@@ -45,17 +45,17 @@ blank_same (x ∷ xs) (y ∷ ys) l f g =
 abbrev pub lines_at : ℕ → ℕ → List ℕ → List ℕ
 lines_at n k xs = lines_from block_lines_of n (blocks_from k xs)
 
-blank_front : (n k : ℕ) (xs x : List ℕ) → is_blank (take 32 xs) ≡ true → lines_at n (suc k) xs ++ x ≡ lines_at (n + 1) k (drop 32 xs) ++ x
+pub blank_front : (n k : ℕ) (xs x : List ℕ) → is_blank (take 32 xs) ≡ true → lines_at n (suc k) xs ++ x ≡ lines_at (n + 1) k (drop 32 xs) ++ x
 unfolding lines_from blocks_from
 blank_front n k xs x e = ap (λ (t : List ℕ). (t ++ lines_at (n + 1) k (drop 32 xs)) ++ x) (blank_lines n (take 32 xs) e)
 
-some_front : (n k : ℕ) (xs x : List ℕ) → is_blank (take 32 xs) ≡ false → lines_at n (suc k) xs ++ x ≡ block_line_of (32 * n) (take 32 xs) ++ (lines_at (n + 1) k (drop 32 xs) ++ x)
+pub some_front : (n k : ℕ) (xs x : List ℕ) → is_blank (take 32 xs) ≡ false → lines_at n (suc k) xs ++ x ≡ block_line_of (32 * n) (take 32 xs) ++ (lines_at (n + 1) k (drop 32 xs) ++ x)
 unfolding lines_from blocks_from
 some_front n k xs x e =
     ap (λ (t : List ℕ). (t ++ lines_at (n + 1) k (drop 32 xs)) ++ x) (some_lines n (take 32 xs) e)
     ∙ append_assoc (block_line_of (32 * n) (take 32 xs)) (lines_at (n + 1) k (drop 32 xs)) x
 
-none_at : (n : ℕ) (xs x : List ℕ) → lines_at n 0 xs ++ x ≡ x
+pub none_at : (n : ℕ) (xs x : List ℕ) → lines_at n 0 xs ++ x ≡ x
 unfolding lines_from blocks_from
 none_at n xs x = refl
 
@@ -71,7 +71,7 @@ not_later (suc k) n m xs b x y l room s e =
           )
     ]
 
-joined : (xs ys : List ℕ) → take 32 xs ≡ take 32 ys → drop 32 xs ≡ drop 32 ys → xs ≡ ys
+pub joined : (xs ys : List ℕ) → take 32 xs ≡ take 32 ys → drop 32 xs ≡ drop 32 ys → xs ≡ ys
 joined xs ys first more = (
     let both : take 32 xs ++ drop 32 xs ≡ take 32 ys ++ drop 32 ys = λ i. first i ++ more i in
     sym (take-append-drop 32 xs) ∙ (both ∙ take-append-drop 32 ys)

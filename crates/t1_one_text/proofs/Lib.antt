@@ -1,9 +1,9 @@
-mod Fields
-mod Lists
-mod Accesses
-mod Items
-mod Strands
-mod Commits
-mod Bytes
-mod Images
-mod Reports
+pub mod Fields
+pub mod Lists
+pub mod Accesses
+pub mod Items
+pub mod Strands
+pub mod Commits
+pub mod Bytes
+pub mod Images
+pub mod Reports

@@ -39,7 +39,7 @@ after_version report = config_line_of report.config ++ after_config report
 parts_of : (report : Report) → text_of report ≡ version_line ++ after_version report
 parts_of report = text_parts report ∙ head_parts report.config report.image (after_image report)
 
-config_cut : (a b : Config) (x y : List ℕ) → AreSmall a → AreSmall b → config_line_of a ++ x ≡ config_line_of b ++ y → (a ≡ b) × (x ≡ y)
+pub config_cut : (a b : Config) (x y : List ℕ) → AreSmall a → AreSmall b → config_line_of a ++ x ≡ config_line_of b ++ y → (a ≡ b) × (x ≡ y)
 unfolding config_line_of
 config_cut a b x y f g e =
     let wide : (n : ℕ) → n < 2 ^ 32 → n < 2 ^ 64 = λ n l. omega (arith, l) in
@@ -50,7 +50,7 @@ config_cut a b x y f g e =
     let budget = number_cut a.budget b.budget (codes "\n") (codes "\n") x y (wide a.budget f.budget) (wide b.budget g.budget) refl refl (ap (drop 8) sets.1) in
     (λ i. record { cores = cores.0 i; strands = strands.0 i; ram = ram.0 i; sets = sets.0 i; budget = budget.0 i }, ap (drop 1) budget.1)
 
-entry_cut : (a b : ℕ) (x y : List ℕ) → FitsDigits 10 a → FitsDigits 10 b → entry_line_of a ++ x ≡ entry_line_of b ++ y → (a ≡ b) × (x ≡ y)
+pub entry_cut : (a b : ℕ) (x y : List ℕ) → FitsDigits 10 a → FitsDigits 10 b → entry_line_of a ++ x ≡ entry_line_of b ++ y → (a ≡ b) × (x ≡ y)
 unfolding entry_line_of
 entry_cut a b x y l m e = (let cut = digits_cut 10 a b (codes "\n") (codes "\n") x y l m (ap (drop 6) e) in (cut.0, ap (drop 1) cut.1))
 

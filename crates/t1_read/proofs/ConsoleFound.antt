@@ -14,7 +14,7 @@ renumber n m [] = refl
 renumber n m (b ∷ bs) =
     ap (λ (t : List ℕ). t ++ lines_from console_line_of (n + 1) bs) (unnumbered n b ∙ sym (unnumbered m b)) ∙ ap (λ (t : List ℕ). console_line_of m b ++ t) (renumber (n + 1) (m + 1) bs)
 
-console_front : (xs : List ℕ) → 1 ≤ length xs → console_lines_of xs ≡ console_line_of 0 (take 32 xs) ++ console_lines_of (drop 32 xs)
+pub console_front : (xs : List ℕ) → 1 ≤ length xs → console_lines_of xs ≡ console_line_of 0 (take 32 xs) ++ console_lines_of (drop 32 xs)
 unfolding lines_from blocks_from
 console_front xs some =
     let k : ℕ = (length (drop 32 xs) + 31) / 32 in

@@ -50,7 +50,7 @@ some_strand config w =
 pub small_ram : (config : Config) → IsTrue (is_in_limits config) → config.ram ≤ 2 ^ 40
 small_ram config w = (let numbers = numbers_small config w in let ram = numbers.ram in omega (arith, ram))
 
-whole_ram : (config : Config) → IsTrue (is_in_limits config) → config.ram % 32 ≡ 0
+pub whole_ram : (config : Config) → IsTrue (is_in_limits config) → config.ram % 32 ≡ 0
 whole_ram config w =
     let limits = and_parts (leb 1 config.cores && leb config.cores 8) _ w in
     let strands = and_parts (leb 1 config.strands && leb config.strands 4) _ limits.1 in

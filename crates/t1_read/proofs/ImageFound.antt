@@ -13,7 +13,7 @@ use Rattle.t1_take.proofs.ImageTexts.{blank_lines, some_lines, IsImageSoFar}
 pub bytes_drop : (n : ℕ) (xs : List ℕ) → AreBytes xs → AreBytes (drop n xs)
 bytes_drop n xs a i = subst (λ (k : ℕ). k < 256) (sym (get_or-drop n xs i 0)) (a (n + i))
 
-bytes_none : (i : ℕ) → get_or {A = ℕ} [] i 0 ≡ 0
+pub bytes_none : (i : ℕ) → get_or {A = ℕ} [] i 0 ≡ 0
 bytes_none zero = refl
 bytes_none (suc i) = refl
 
@@ -23,7 +23,7 @@ bytes_take (suc n) [] a i = (let z = bytes_none i in omega (arith, z))
 bytes_take (suc n) (x ∷ xs) a zero = a 0
 bytes_take (suc n) (x ∷ xs) a (suc i) = bytes_take n xs (λ k. a (suc k)) i
 
-blank_zero : (xs : List ℕ) → is_blank xs ≡ true → (i : ℕ) → get_or xs i 0 ≡ 0
+pub blank_zero : (xs : List ℕ) → is_blank xs ≡ true → (i : ℕ) → get_or xs i 0 ≡ 0
 blank_zero [] e i = bytes_none i
 blank_zero (x ∷ xs) e zero = eqb-true x 0 (and_parts _ _ e).0
 blank_zero (x ∷ xs) e (suc i) = blank_zero xs (and_parts _ _ e).1 i

@@ -41,7 +41,7 @@ is_placed (how.Forward time) p = tt
 is_placed (how.Hit time) p = tt
 is_placed (how.Commit index seen) p = tt
 
-item_has_text : (ram : ℕ) (item : Item) → ram ≤ 2 ^ 40 → IsGoodItem ram item → HasText item
+pub item_has_text : (ram : ℕ) (item : Item) → ram ≤ 2 ^ 40 → IsGoodItem ram item → HasText item
 item_has_text ram item most good = record {
   addr = λ a. reached_fits ram item.addr item.kind most a good.reached;
   some = λ a. (size_fits item.size (size_of item.kind item.size a good.size)).0;

@@ -1,6 +1,6 @@
 -- The log of a report that stands in a text, part by part.
 use Rattle.std.proofs.Common.{◌≡◌, ℕ, zero, suc, ◌+◌, ◌*◌, ◌^◌, ◌<◌, ◌≤◌, List, [], ◌∷◌, ◌++◌, length, get_or, Option, Some, None, refl, sym, ap, subst, ◌∙◌, append_assoc, arith}
-use Rattle.std.specs.Prelude.{All}
+use Rattle.std.specs.Prelude.{All, IsTrue}
 use Rattle.std.specs.List.{slice_get}
 use Rattle.std.proofs.lemmas.Bool.{and_parts, leb-true}
 use Rattle.std.proofs.lemmas.Option.{slice_get_within, slice_get-get_or}
@@ -8,6 +8,7 @@ use Rattle.std.proofs.Math.Nat.{mul-le-mul}
 use Rattle.t1_event.specs.declared.item.Item.{Item}
 use Rattle.t1_event.specs.declared.trace.Trace.{Trace}
 use Rattle.t1_event.specs.declared.report.Config.{Config}
+use Rattle.t1_event.specs.declared.commit.Commit.{Commit}
 use Rattle.t1_event.specs.declared.report.Report.{Report}
 use Rattle.t1_event.specs.Items.{items_of}
 use Rattle.t1_log.specs.Lines.{config_line_of, entry_line_of, place_line_of, ending_line_of, end_line}
@@ -16,7 +17,8 @@ use Rattle.t1_log.specs.Log.{version_line, item_line_of, trace_lines_of, commit_
 use Rattle.t1_take.specs.Items.{IsGoodTrace}
 use Rattle.t1_read.specs.Exact.{NextIsNot}
 use Rattle.t1_read.specs.Standing.{IsGoodHead, IsGoodTail}
-use Rattle.t1_take.specs.WellFormed.{IsNamed, IsWellFormed}
+use Rattle.t1_take.specs.Limits.{is_in_limits}
+use Rattle.t1_take.specs.WellFormed.{AreGoodCommits, IsNamed, IsWellFormed}
 use Rattle.t1_take.proofs.Leaving.{place_some, place_first, item_some, item_first}
 use Rattle.t1_read.proofs.StrandsFound.{has_ended, trace_is, end_some, end_first}
 use Rattle.t1_take.proofs.HeadTexts.{numbers_small}
@@ -93,7 +95,7 @@ first_next t ts ram rest good =
     (lines_next (item_line_of 0) 109 0 t.items (last ++ (more ++ rest)) (λ n x r. front_next 109 105 (item_line_of 0 n x) r (item_some 0 n x) (item_first 0 n x r) (λ e. omega (arith, e)))
     (front_next 109 101 last (more ++ rest) (end_some 0 end.ending t.units t.pc) (end_first 0 end.ending t.units t.pc (more ++ rest)) (λ e. omega (arith, e))))
 
-traces_next : (traces : List Trace) (ram : ℕ) (rest : List ℕ) → All (IsGoodTrace ram) traces → 0 < length traces → NextIsNot 109 (lines_from trace_lines_of 0 traces ++ rest)
+pub traces_next : (traces : List Trace) (ram : ℕ) (rest : List ℕ) → All (IsGoodTrace ram) traces → 0 < length traces → NextIsNot 109 (lines_from trace_lines_of 0 traces ++ rest)
 traces_next [] ram rest good some = absurd (omega (arith, some))
 traces_next (t ∷ ts) ram rest good some = first_next t ts ram rest (good 0 t (omega arith))
 
@@ -123,19 +125,23 @@ at_of P [] k x a e = let clash : ◌≡◌ {A = Option _} None (Some x) = e in c
 at_of P (y ∷ xs) zero x a e = let same : y ≡ x = cc (e) in subst P same (a 0 x (omega arith))
 at_of P (y ∷ xs) (suc k) x a e = at_of P xs k x (λ j d l. a (suc j) d (omega (arith, l))) e
 
-pub named_all : (report : Report) → IsWellFormed report → All IsNamed report.log
-named_all report w k d l =
-    let good = w.log k (get_or report.log k d) (slice_get-get_or report.log k d l) in
-    let at = there report.traces _ _ good.item good.names in
-    let strand = slice_get_within report.traces _ at.0 at.1 in
+-- commits name items of traces, of which there are few
+pub named_in : (config : Config) (traces : List Trace) (log : List Commit) → IsTrue (is_in_limits config) → length traces ≡ config.cores * config.strands → All (IsGoodTrace config.ram) traces
+    → AreGoodCommits config.cores (items_of traces) log → All IsNamed log
+named_in config traces log within number all names k d l =
+    let good = names k (get_or log k d) (slice_get-get_or log k d l) in
+    let at = there traces _ _ good.item good.names in
+    let strand = slice_get_within traces _ at.0 at.1 in
     let item = slice_get_within at.0.items _ good.item at.2 in
-    let few = (at_of (IsGoodTrace report.config.ram) report.traces _ at.0 w.traces at.1).count in
-    let limits = and_parts _ _ w.limits in
-    let cores : report.config.cores ≤ 8 = leb-true _ _ (and_parts _ _ limits.0).1 in
-    let strands : report.config.strands ≤ 4 = leb-true _ _ (and_parts _ _ (and_parts _ _ limits.1).0).1 in
-    let most : report.config.cores * report.config.strands ≤ 8 * 4 = mul-le-mul cores strands in
-    let number = w.number in
+    let few = (at_of (IsGoodTrace config.ram) traces _ at.0 all at.1).count in
+    let limits = and_parts _ _ within in
+    let cores : config.cores ≤ 8 = leb-true _ _ (and_parts _ _ limits.0).1 in
+    let strands : config.strands ≤ 4 = leb-true _ _ (and_parts _ _ (and_parts _ _ limits.1).0).1 in
+    let most : config.cores * config.strands ≤ 8 * 4 = mul-le-mul cores strands in
     record { strand = omega (arith, strand, number, most); item = omega (arith, item, few) }
+
+pub named_all : (report : Report) → IsWellFormed report → All IsNamed report.log
+named_all report w = named_in report.config report.traces report.log w.limits w.number w.traces w.log
 
 -- ---- what a report that was found asks of its parts
 

@@ -1,0 +1,11 @@
+mod Lists
+mod Images
+mod Consoles
+mod Lines
+mod Next
+mod Tails
+mod Strands
+mod Parts
+mod Firsts
+mod Faults
+mod Ones
