@@ -50,7 +50,6 @@ impl Lines {
 
 /// Whether a line that was refused has the form, so that a value is out of its range.
 fn kind_of_fault(line: &[u8], kind: Line) -> LogKind
-    requires { length line.now ≤ 67108864 }
     ensures { IsKindOfFault kind line.now result }
 {
     if has_form(kind, line) {
