@@ -135,11 +135,3 @@ new_block ram least addr block whole tight small n = record {
   within = n.within;
   digits = (let l = n.within in omega (arith, l, small));
 }
-
--- ---- places
-
--- what was read took some of the text
-pub moved : (text : List ℕ) (a b : ℕ) (piece : List ℕ) → Reads text a b piece → 0 < length piece → a < b
-moved text a b piece r some =
-    let n = ap length r ∙ length-append piece (drop b text) in
-    omega (arith, n, some, length-drop a text, length-drop b text)

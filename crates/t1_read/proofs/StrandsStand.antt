@@ -196,9 +196,3 @@ has_trace text a b config image traces trace strand ram h o strand_is ram_is goo
       omega (arith, none, length-append traces (trace ∷ []))
       );
 }
-
--- ---- loops over lines
-
--- a line that was taken brings the place on
-pub went_on : (text : List ℕ) (a b : ℕ) (piece : List ℕ) → 0 < length piece → Reads text a b piece → a + 1 ≤ b
-went_on text a b piece some r = (let n = ap length r ∙ length-append piece (drop b text) in omega (arith, n, length-drop a text, length-drop b text, some))

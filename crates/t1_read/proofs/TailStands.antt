@@ -194,18 +194,6 @@ console_leads text a b config image traces log order console h bytes r past = re
   past = past;
 }
 
--- ---- loops over lines
-
--- a line that was read brings the place on
-pub moved : (text : List ℕ) (a b : ℕ) (piece : List ℕ) → 0 < length piece → Reads text a b piece → a + 1 ≤ b
-moved text a b piece some r =
-    let n = ap length r ∙ length-append piece (drop b text) in
-    omega (arith, n, length-drop a text, length-drop b text, some)
-
--- past the end of a text no byte but 0 is read
-pub at_end_of_text : (text : List ℕ) (at byte : ℕ) → length text ≤ at → 0 < byte → get_or text at 0 ≡ byte → ⊥
-at_end_of_text text at byte past some e = (let z = sym (get_or_past text at 0 past) ∙ e in omega (arith, z, some))
-
 -- ---- bytes of the console
 
 bytes_none : (i : ℕ) → slice_index [] i < 256

@@ -15,7 +15,8 @@ use Rattle.t1_read.specs.Exact.{NextIsNot}
 use Rattle.t1_read.specs.Faults.{Within}
 use Rattle.t1_read.specs.Standing.{so_far, Stands, IsHead}
 use Rattle.t1_read.proofs.Judging.{named, by_letter}
-use Rattle.t1_read.proofs.HeadStands.{some_strand, small_ram, image_stands, tight_more, new_block, moved}
+use Rattle.t1_read.proofs.Places.{went_on, at_end_of_text, nothing_past}
+use Rattle.t1_read.proofs.HeadStands.{some_strand, small_ram, image_stands, tight_more, new_block}
 use Rattle.t1_read.proofs.ImageFound.{lines_of, block_of, IsBlockNext, image_begun, image_cases, image_more, block_first, block_some}
 use Rattle.t1_read.proofs.head.read_image.Goals.{At-loop-line, After-peek, After-take_block}
 use Rattle.t1_read.proofs.head.read_image.Goals as goal
@@ -73,7 +74,7 @@ loop-line-preserved c =
       so_far = block_more c.args.text.now c.args.lines.now.at c.loop-line.lines.at c.went.new.self.at c.loop-line.ram c.take_block.new.ram c.loop-line.least c.in-Some.addr c.take_block.ensures.length c.loop-line.invariant.so_far written;
       tight = tight_more c.args.text.now _ _ c.loop-line.least c.in-Some.addr c.loop-line.ram c.take_block.new.ram written;
       bytes = λ i. omega (arith, c.type_inv.ram i);
-      on = (let m = moved c.args.text.now _ _ _ written.reads (block_some c.in-Some.addr written.block) in let o = c.loop-line.invariant.on in omega (arith, m, o));
+      on = (let m = went_on c.args.text.now _ _ _ (block_some c.in-Some.addr written.block) written.reads in let o = c.loop-line.invariant.on in omega (arith, m, o));
       finds = λ all rest size most bytes other e. (
           let f = found (goal.at.loop-line-preserved c).After-take_block all rest size most bytes other e in
           image_more c.args.text.now c.args.lines.now.at c.loop-line.lines.at c.went.new.self.at c.loop-line.ram c.take_block.new.ram c.loop-line.least _ all rest (size ∙ sym c.loop-line.invariant.len) c.loop-line.invariant.so_far
@@ -128,17 +129,10 @@ returns-clause-reads c = lines_read (goal.at.returns-clause-reads c).At-loop-lin
 pub returns-clause-finds : goal.returns-clause-finds
 returns-clause-finds c = λ all rest size most bytes other e.
     let so = c.loop-line.invariant.finds all rest size most bytes other e in
-    let n = ap length so.rest_is ∙ length-append (lines_of all (c.loop-line.least / 32) (length all / 32 - c.loop-line.least / 32)) rest in
-    let some = other.some in
-    let low = c.loop-line.invariant.on in
-    absurd (omega (arith, n, length-drop c.loop-line.lines.at c.args.text.now, some, low, c.loop-line-test.false))
+    absurd (nothing_past c.args.text.now c.loop-line.lines.at _ rest so.rest_is other.some (let on = c.loop-line.invariant.on in omega (arith, on, c.loop-line-test.false)))
 
 pub returns-clause-leads : goal.returns-clause-leads
 returns-clause-leads c = λ config entry head size. record {
   stands = standing (goal.at.returns-clause-leads c).At-loop-line config entry head size;
-  past = λ kind follows is here. (
-      let on = c.loop-line.invariant.on in
-      let z = get_or_past c.args.text.now c.loop-line.lines.at 0 (omega (arith, on, c.loop-line-test.false)) in
-      omega (arith, z, here)
-      );
+  past = λ kind follows is here. (let on = c.loop-line.invariant.on in at_end_of_text c.args.text.now c.loop-line.lines.at 109 (omega (arith, on, c.loop-line-test.false)) (omega arith) here);
 }
