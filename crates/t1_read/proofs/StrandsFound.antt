@@ -1,5 +1,5 @@
 -- Strands that stand in a text are read.
-use Rattle.std.proofs.Common.{◌≡◌, ◌∙◌, ℕ, ◌+◌, ◌<◌, ◌++◌, List, [], length, drop, get_or, All, Option, Some, None, refl, sym, ap, inl, inr, arith}
+use Rattle.std.proofs.Common.{◌≡◌, ◌∙◌, ℕ, ◌<◌, ◌++◌, List, [], length, drop, get_or, Option, Some, None, refl, ap, arith}
 use Rattle.t1_event.specs.declared.trace.Trace.{Trace}
 use Rattle.t1_event.specs.declared.trace.Ending.{Ending}
 use Rattle.t1_log.specs.Lines.{ending_line_of}
@@ -7,7 +7,6 @@ use Rattle.t1_log.specs.Texts.{lines_from}
 use Rattle.t1_log.specs.Log.{item_line_of, trace_lines_of}
 use Rattle.t1_take.specs.Items.{IsGoodEnd}
 use Rattle.t1_take.proofs.Finding.{next}
-use Rattle.t1_take.proofs.Leaving.{IsLeft, IsNext, left_cases, peeked, all_next}
 use Rattle.t1_read.specs.Exact.{NextIsNot}
 
 pub record IsEnded (o : Option Ending) : Type 0 where

@@ -1,5 +1,4 @@
-use Rattle.std.proofs.Common.{◌≡◌, ◌∙◌, ◌+◌, ◌*◌, ◌-◌, ◌/◌, ◌%◌, ◌^◌, ◌≤◌, ◌⊎◌, ◌++◌, ℕ, List, [], length, drop, get_or, Some, inl, inr, ap, sym, subst, refl, arith}
-use Rattle.std.proofs.lemmas.List.{length-append, length-drop, get_or_past}
+use Rattle.std.proofs.Common.{◌≡◌, ◌∙◌, ◌+◌, ◌*◌, ◌%◌, ◌^◌, ◌≤◌, ◌⊎◌, ◌++◌, ℕ, List, [], length, drop, get_or, Some, inl, inr, ap, sym, subst, refl, arith}
 use Rattle.std.proofs.lemmas.Option.{same_Some, none-some}
 use Rattle.t1_num.specs.MemoryLaws.{AreBytes}
 use Rattle.t1_event.specs.declared.report.Config.{Config}
@@ -17,7 +16,7 @@ use Rattle.t1_read.specs.Standing.{so_far, Stands, IsHead}
 use Rattle.t1_read.proofs.Judging.{named, by_letter}
 use Rattle.t1_read.proofs.Places.{went_on, at_end_of_text, nothing_past}
 use Rattle.t1_read.proofs.HeadStands.{some_strand, small_ram, image_stands, tight_more, new_block}
-use Rattle.t1_read.proofs.ImageFound.{lines_of, block_of, IsBlockNext, image_begun, image_cases, image_more, block_first, block_some}
+use Rattle.t1_read.proofs.ImageFound.{block_of, IsBlockNext, image_begun, image_cases, image_more, block_first, block_some}
 use Rattle.t1_read.proofs.head.read_image.Goals.{At-loop-line, After-peek, After-take_block}
 use Rattle.t1_read.proofs.head.read_image.Goals as goal
 

@@ -1,6 +1,6 @@
 use Rattle.std.proofs.Common.{◌≡◌, ◌∙◌, ◌^◌, ◌≤◌, ◌++◌, ◌∷◌, ℕ, List, [], length, drop, get_or, All, Some, inl, inr, ap, sym, subst, arith}
 use Rattle.std.proofs.lemmas.Option.{same_Some, none-some}
-use Rattle.std.proofs.lemmas.List.{length-append, get_or_past}
+use Rattle.std.proofs.lemmas.List.{length-append}
 use Rattle.std.proofs.lemmas.List.Elements.{All-push}
 use Rattle.t1_elf.specs.declared.object.Image.{Image}
 use Rattle.t1_event.specs.declared.item.Item.{Item}

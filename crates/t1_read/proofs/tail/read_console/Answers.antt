@@ -1,5 +1,4 @@
 use Rattle.std.proofs.Common.{◌≡◌, ◌∙◌, ◌++◌, ℕ, List, [], true, false, take, drop, get_or, length, inl, inr, ap, sym, subst, arith}
-use Rattle.std.proofs.lemmas.List.{length-append, length-drop}
 use Rattle.std.proofs.lemmas.Bool.{eqb-true, eq-eqb}
 use Rattle.t1_num.specs.MemoryLaws.{AreBytes}
 use Rattle.t1_log.specs.Log.{console_line_of, console_lines_of}
