@@ -1,5 +1,5 @@
 -- Texts that are written part by part, each part a field.
-use Rattle.std.proofs.Common.{◌≡◌, ℕ, List, [], ◌∷◌, ◌++◌, inl, inr, refl}
+use Rattle.std.proofs.Common.{ℕ, List, [], ◌∷◌, ◌++◌, inl, inr, refl}
 use Rattle.std.specs.Fmt.{decimal}
 use Rattle.t1_packet.specs.declared.cache.Cache as packet
 use Rattle.t1_packet.specs.declared.cache.Cache.TheVariants.{Dcache, Icache}
