@@ -1,5 +1,5 @@
 -- Lines that are printed have their forms.
-use Rattle.std.proofs.Common.{◌≡◌, ℕ, ◌≤◌, inl, inr, List, [], ◌++◌, length, codes, refl, ◌∙◌, append_assoc, arith}
+use Rattle.std.proofs.Common.{◌≡◌, ℕ, ◌≤◌, inl, inr, List, [], ◌∷◌, ◌++◌, length, codes, refl, ◌∙◌, append_assoc, arith}
 use Rattle.std.specs.Fmt.{decimal}
 use Rattle.std.proofs.lemmas.List.{append_cancel_right}
 use Rattle.t1_event.specs.Printable.{HasText}
@@ -12,11 +12,13 @@ use Rattle.t1_event.specs.declared.trace.Ending.TheVariants.{Halted, Fault, Spen
 use Rattle.t1_log.specs.Hex.{hex_of, hex_of_bytes}
 use Rattle.t1_log.specs.Lines.{item_fields_of, config_line_of, entry_line_of, block_line_of, ending_fields_of, ending_line_of, place_line_of, end_line}
 use Rattle.t1_log.specs.Log.{place_fields_of, way_field_of, evicted_field_of, kill_fields_of, item_line_of, commit_head_of, commit_line_of, console_line_of}
-use Rattle.t1_line_forms.specs.Forms.{IsOneOf, head_of, forms_of, HasForm}
+use Rattle.t1_line_forms.specs.Forms.{IsForm, IsOneOf, head_of, forms_of, HasForm}
 use Rattle.t1_line_forms.specs.Words.{IsWord, AreConfigWords, ArePlaceWords, AreCommitWords}
 use Rattle.t1_line_forms.specs.declared.line.Line.{Line}
 use Rattle.t1_line_forms.specs.declared.line.Line.TheVariants as line_of
-use Rattle.t1_line_forms.proofs.Numerals.{decimal_is, hex_is, bytes_are}
+use Rattle.t1_line_forms.specs.declared.field.Tail.TheVariants.{Nothing}
+use Rattle.t1_line_forms.proofs.Numerals.{hex_is, bytes_are}
+use Rattle.t1_line_forms.proofs.Parts.{Part, Text, Decimal, Digits, fields_of, text_of, AreFit, parts_lead}
 use Rattle.t1_line_forms.proofs.ItemFields.{item_goes_on}
 use Rattle.t1_line_forms.proofs.CommitFields.{kills_are, commit_goes_on}
 
@@ -24,89 +26,29 @@ use Rattle.t1_line_forms.proofs.CommitFields.{kills_are, commit_goes_on}
 has : (kind : Line) (line rest text : List ℕ) → line ++ codes "\n" ≡ text → text ≡ (head_of kind ++ rest) ++ codes "\n" → IsOneOf (forms_of kind) rest → HasForm kind line
 has kind line rest text e is goes_on = record { rest = rest; begins = append_cancel_right line (head_of kind ++ rest) (codes "\n") (e ∙ is); goes_on = goes_on }
 
+-- parts that nothing follows have the form of their fields
+parts_form : (parts : List Part) → AreFit parts [] → IsForm (record { fields = fields_of parts; tail = Nothing }) (text_of parts [])
+parts_form parts fit = record { rest = []; leads = parts_lead parts [] fit; ends = refl }
+
 pub config_form : (config : Config) (line : List ℕ) → AreConfigWords config → line ++ codes "\n" ≡ config_line_of config → HasForm line_of.Config line
 unfolding config_line_of
 config_form config line words e =
-    let t4 : List ℕ = decimal config.budget ++ [] in
-    let t3 : List ℕ = decimal config.sets ++ (codes " budget " ++ t4) in
-    let t2 : List ℕ = decimal config.ram ++ (codes " sets " ++ t3) in
-    let t1 : List ℕ = decimal config.strands ++ (codes " ram " ++ t2) in
-    let t0 : List ℕ = decimal config.cores ++ (codes " strands " ++ t1) in
-    has line_of.Config line t0 (config_line_of config) e (simp append_assoc) (inl (record {
-      rest = [];
-      leads = (
-        decimal config.cores,
-        codes " strands " ++ t1,
-        (refl, decimal_is config.cores words.cores, refl),
-        (
-          codes " strands ",
-          t1,
-          (refl, refl, tt),
-          (
-            decimal config.strands,
-            codes " ram " ++ t2,
-            (refl, decimal_is config.strands words.strands, refl),
-            (
-              codes " ram ",
-              t2,
-              (refl, refl, tt),
-              (
-                decimal config.ram,
-                codes " sets " ++ t3,
-                (refl, decimal_is config.ram words.ram, refl),
-                (
-                  codes " sets ",
-                  t3,
-                  (refl, refl, tt),
-                  (
-                    decimal config.sets,
-                    codes " budget " ++ t4,
-                    (refl, decimal_is config.sets words.sets, refl),
-                    (
-                      codes " budget ",
-                      t4,
-                      (refl, refl, tt),
-                      (decimal config.budget, [], (refl, decimal_is config.budget words.budget, tt), refl),
-                    ),
-                  ),
-                ),
-              ),
-            ),
-          ),
-        ),
-      );
-      ends = refl;
-    }))
+    let parts : List Part =
+    Decimal config.cores ∷ Text (codes " strands ") ∷ Decimal config.strands ∷ Text (codes " ram ") ∷ Decimal config.ram ∷ Text (codes " sets ") ∷ Decimal config.sets ∷ Text (codes " budget ") ∷ Decimal config.budget ∷ [] in
+    has line_of.Config line (text_of parts []) (config_line_of config) e (simp append_assoc)
+    (inl (parts_form parts (words.cores, refl, (words.strands, refl, (words.ram, refl, (words.sets, refl, (words.budget, tt, tt)))))))
 
 pub entry_form : (entry : ℕ) (line : List ℕ) → line ++ codes "\n" ≡ entry_line_of entry → HasForm line_of.Entry line
 unfolding entry_line_of
 entry_form entry line e =
-    has line_of.Entry line (hex_of 10 entry ++ []) (entry_line_of entry) e (simp append_assoc) (inl (record {
-      rest = [];
-      leads =
-          (hex_of 10 entry, [], (refl, hex_is 10 entry (omega arith), tt), refl);
-      ends = refl;
-    }))
+    let parts : List Part = Digits 10 (hex_of 10 entry) ∷ [] in
+    has line_of.Entry line (text_of parts []) (entry_line_of entry) e (simp append_assoc) (inl (parts_form parts (hex_is 10 entry (omega arith), tt)))
 
 pub block_form : (addr : ℕ) (bytes line : List ℕ) → length bytes ≡ 32 → line ++ codes "\n" ≡ block_line_of addr bytes → HasForm line_of.Block line
 unfolding block_line_of
 block_form addr bytes line count e =
-    let t1 : List ℕ = hex_of_bytes bytes ++ [] in
-    has line_of.Block line (hex_of 10 addr ++ (codes " " ++ t1)) (block_line_of addr bytes) e (simp append_assoc) (inl (record {
-      rest = [];
-      leads = (
-        hex_of 10 addr,
-        codes " " ++ t1,
-        (refl, hex_is 10 addr (omega arith), tt),
-        (
-          codes " ",
-          t1,
-          (refl, refl, tt),
-          (hex_of_bytes bytes, [], (refl, bytes_are bytes 32 count (omega arith), tt), refl),
-        ),
-      );
-      ends = refl;
-    }))
+    let parts : List Part = Digits 10 (hex_of 10 addr) ∷ Text (codes " ") ∷ Digits 64 (hex_of_bytes bytes) ∷ [] in
+    has line_of.Block line (text_of parts []) (block_line_of addr bytes) e (simp append_assoc) (inl (parts_form parts (hex_is 10 addr (omega arith), (bytes_are bytes 32 count (omega arith), tt))))
 
 pub item_form : (strand number : ℕ) (item : Item) (line : List ℕ) → HasText item → ArePlaceWords item.how → line ++ codes "\n" ≡ item_line_of strand number item → HasForm (line_of.Item strand number) line
 unfolding item_line_of
@@ -116,85 +58,15 @@ item_form strand number item line text words e =
 pub end_form : (strand : ℕ) (ending : Ending) (units pc : ℕ) (line : List ℕ) → IsWord units → line ++ codes "\n" ≡ ending_line_of strand ending units pc → HasForm (line_of.End strand) line
 unfolding ending_line_of ending_fields_of
 end_form strand Halted units pc line wide e =
-    let t1 : List ℕ = hex_of 16 pc ++ [] in
-    let t0 : List ℕ = decimal units ++ (codes " " ++ t1) in
-    has (line_of.End strand) line (codes "halted " ++ t0) (ending_line_of strand Halted units pc) e (simp append_assoc) (inl (record {
-      rest = [];
-      leads = (
-        codes "halted ",
-        t0,
-        (refl, refl, tt),
-        (
-          decimal units,
-          codes " " ++ t1,
-          (refl, decimal_is units wide, refl),
-          (
-            codes " ",
-            t1,
-            (refl, refl, tt),
-            (hex_of 16 pc, [], (refl, hex_is 16 pc (omega arith), tt), refl),
-          ),
-        ),
-      );
-      ends = refl;
-    }))
+    let parts : List Part = Text (codes "halted ") ∷ Decimal units ∷ Text (codes " ") ∷ Digits 16 (hex_of 16 pc) ∷ [] in
+    has (line_of.End strand) line (text_of parts []) (ending_line_of strand Halted units pc) e (simp append_assoc) (inl (parts_form parts (wide, refl, (hex_is 16 pc (omega arith), tt))))
 end_form strand Spent units pc line wide e =
-    let t1 : List ℕ = hex_of 16 pc ++ [] in
-    let t0 : List ℕ = decimal units ++ (codes " " ++ t1) in
-    has (line_of.End strand) line (codes "spent " ++ t0) (ending_line_of strand Spent units pc) e (simp append_assoc) (inr (inl (record {
-      rest = [];
-      leads = (
-        codes "spent ",
-        t0,
-        (refl, refl, tt),
-        (
-          decimal units,
-          codes " " ++ t1,
-          (refl, decimal_is units wide, refl),
-          (
-            codes " ",
-            t1,
-            (refl, refl, tt),
-            (hex_of 16 pc, [], (refl, hex_is 16 pc (omega arith), tt), refl),
-          ),
-        ),
-      );
-      ends = refl;
-    })))
+    let parts : List Part = Text (codes "spent ") ∷ Decimal units ∷ Text (codes " ") ∷ Digits 16 (hex_of 16 pc) ∷ [] in
+    has (line_of.End strand) line (text_of parts []) (ending_line_of strand Spent units pc) e (simp append_assoc) (inr (inl (parts_form parts (wide, refl, (hex_is 16 pc (omega arith), tt)))))
 end_form strand (Fault trap) units pc line wide e =
-    let t2 : List ℕ = hex_of 3 trap ++ [] in
-    let t1 : List ℕ = hex_of 16 pc ++ (codes " " ++ t2) in
-    let t0 : List ℕ = decimal units ++ (codes " " ++ t1) in
-    has (line_of.End strand) line (codes "fault " ++ t0) (ending_line_of strand (Fault trap) units pc) e (simp append_assoc) (inr (inr (inl (record {
-      rest = [];
-      leads = (
-        codes "fault ",
-        t0,
-        (refl, refl, tt),
-        (
-          decimal units,
-          codes " " ++ t1,
-          (refl, decimal_is units wide, refl),
-          (
-            codes " ",
-            t1,
-            (refl, refl, tt),
-            (
-              hex_of 16 pc,
-              codes " " ++ t2,
-              (refl, hex_is 16 pc (omega arith), tt),
-              (
-                codes " ",
-                t2,
-                (refl, refl, tt),
-                (hex_of 3 trap, [], (refl, hex_is 3 trap (omega arith), tt), refl),
-              ),
-            ),
-          ),
-        ),
-      );
-      ends = refl;
-    }))))
+    let parts : List Part = Text (codes "fault ") ∷ Decimal units ∷ Text (codes " ") ∷ Digits 16 (hex_of 16 pc) ∷ Text (codes " ") ∷ Digits 3 (hex_of 3 trap) ∷ [] in
+    has (line_of.End strand) line (text_of parts []) (ending_line_of strand (Fault trap) units pc) e (simp append_assoc)
+    (inr (inr (inl (parts_form parts (wide, refl, (hex_is 16 pc (omega arith), (hex_is 3 trap (omega arith), tt)))))))
 
 pub commit_line_form : (index : ℕ) (commit : Commit) (line : List ℕ) → AreCommitWords commit → length commit.kills ≤ 64 → line ++ codes "\n" ≡ commit_line_of index commit → HasForm (line_of.Commit index) line
 unfolding commit_line_of commit_head_of
@@ -207,22 +79,8 @@ commit_line_form index commit line words few e =
 pub order_form : (place : Place) (line : List ℕ) → IsWord place.strand → IsWord place.item → line ++ codes "\n" ≡ place_line_of place → HasForm line_of.Order line
 unfolding place_line_of
 order_form place line strand item e =
-    let t1 : List ℕ = decimal place.item ++ [] in
-    has line_of.Order line (decimal place.strand ++ (codes " " ++ t1)) (place_line_of place) e (simp append_assoc) (inl (record {
-      rest = [];
-      leads = (
-        decimal place.strand,
-        codes " " ++ t1,
-        (refl, decimal_is place.strand strand, refl),
-        (
-          codes " ",
-          t1,
-          (refl, refl, tt),
-          (decimal place.item, [], (refl, decimal_is place.item item, tt), refl),
-        ),
-      );
-      ends = refl;
-    }))
+    let parts : List Part = Decimal place.strand ∷ Text (codes " ") ∷ Decimal place.item ∷ [] in
+    has line_of.Order line (text_of parts []) (place_line_of place) e (simp append_assoc) (inl (parts_form parts (strand, refl, (item, tt, tt))))
 
 pub console_form : (n : ℕ) (bytes line : List ℕ) → 1 ≤ length bytes → length bytes ≤ 32 → line ++ codes "\n" ≡ console_line_of n bytes → HasForm line_of.Console line
 unfolding console_line_of

@@ -1,9 +1,8 @@
 -- Line feeds of a text.
-use Rattle.std.proofs.Common.{◌≡◌, ℕ, suc, ◌+◌, ◌<◌, ◌≤◌, min, true, false, eqb, List, [], ◌∷◌, ◌++◌, length, take, drop, get_or, refl, sym, ap, ◌∙◌, inl, inr, arith}
+use Rattle.std.proofs.Common.{◌≡◌, ℕ, ◌+◌, ◌<◌, ◌≤◌, min, eqb, List, [], ◌∷◌, ◌++◌, length, take, drop, get_or, refl, sym, ap, ◌∙◌, inl, inr, arith}
 use Rattle.std.proofs.lemmas.Bool.{cases_Bool, cases_lt, eqb-true, eq-eqb}
 use Rattle.std.proofs.lemmas.List.{take_more, take_all, drop_all}
-use Rattle.t1_read.specs.Faults.{feeds, BeginsWith}
-use Rattle.t1_read.specs.Standing.{BeginsSo}
+use Rattle.t1_read.specs.Faults.{feeds}
 
 feeds_last : (xs : List ℕ) (byte : ℕ) → feeds (xs ++ byte ∷ []) ≡ feeds (byte ∷ []) + feeds xs
 feeds_last [] byte = omega arith

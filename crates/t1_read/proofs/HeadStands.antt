@@ -1,21 +1,19 @@
 -- Behind the lines of the head.
-use Rattle.std.proofs.Common.{◌≡◌, ℕ, zero, suc, ◌+◌, ◌*◌, ◌-◌, ◌%◌, ◌^◌, ◌<◌, ◌≤◌, ◌⊎◌, ◌&&◌, true, false, leb, ltb, eqb, List, [], ◌∷◌, ◌++◌, length, drop, get_or, All, IsTrue, refl, sym, ap, ◌∙◌, append_assoc, append-nil, inl, inr, arith}
+use Rattle.std.proofs.Common.{◌≡◌, ℕ, zero, suc, ◌+◌, ◌*◌, ◌-◌, ◌%◌, ◌^◌, ◌<◌, ◌≤◌, ◌⊎◌, ◌&&◌, true, false, leb, ltb, eqb, List, [], ◌∷◌, ◌++◌, length, drop, get_or, IsTrue, refl, sym, ap, ◌∙◌, append_assoc, append-nil, inl, inr, arith}
 use Rattle.std.proofs.lemmas.Bool.{cases_Bool, cases_lt, and_parts, leb-true, eqb-true, eq-eqb, le-leb, lt-ltb}
 use Rattle.std.proofs.Math.Nat.{mul-le-mul}
-use Rattle.std.proofs.lemmas.List.{length-append, length-drop}
 use Rattle.t1_num.specs.MemoryLaws.{AreBytes}
-use Rattle.t1_elf.specs.declared.object.Image.{Image}
 use Rattle.t1_event.specs.declared.report.Config.{Config}
-use Rattle.t1_log.specs.Lines.{config_line_of, entry_line_of, block_line_of}
+use Rattle.t1_log.specs.Lines.{config_line_of, entry_line_of}
 use Rattle.t1_log.specs.Log.{version_line, item_line_of, trace_lines_of, commit_line_of, console_lines_of}
 use Rattle.t1_log.specs.Texts.{lines_from, blocks_from, is_blank, image_lines_of, head_lines_of, order_lines_of}
 use Rattle.t1_take.specs.Limits.{is_ram, is_in_limits}
 use Rattle.t1_take.specs.Taken.{Reads}
-use Rattle.t1_take.specs.Image.{HasBlock, IsBlockAt, IsWritten}
+use Rattle.t1_take.specs.Image.{IsBlockAt, IsWritten}
 use Rattle.t1_take.proofs.HeadTexts.{numbers_small}
 use Rattle.t1_take.proofs.ListTexts.{all_none}
 use Rattle.t1_take.proofs.ImageTexts.{IsImageSoFar, image_end}
-use Rattle.t1_read.specs.Faults.{IsOpen, IsNewBlock, IsInRange}
+use Rattle.t1_read.specs.Faults.{IsNewBlock}
 use Rattle.t1_read.specs.Standing.{Stands, so_far, IsHead}
 
 -- ---- the text so far
@@ -135,11 +133,3 @@ new_block ram least addr block whole tight small n = record {
   within = n.within;
   digits = (let l = n.within in omega (arith, l, small));
 }
-
--- ---- places
-
--- what was read took some of the text
-pub moved : (text : List ℕ) (a b : ℕ) (piece : List ℕ) → Reads text a b piece → 0 < length piece → a < b
-moved text a b piece r some =
-    let n = ap length r ∙ length-append piece (drop b text) in
-    omega (arith, n, some, length-drop a text, length-drop b text)

@@ -1,5 +1,5 @@
 -- An image that stands in a text is read.
-use Rattle.std.proofs.Common.{◌≡◌, ℕ, zero, suc, ◌+◌, ◌*◌, ◌-◌, ◌/◌, ◌%◌, ◌^◌, ◌<◌, ◌≤◌, ◌⊎◌, true, false, List, [], ◌∷◌, ◌++◌, length, take, drop, get_or, refl, sym, ap, subst, ◌∙◌, inl, inr, arith}
+use Rattle.std.proofs.Common.{◌≡◌, ℕ, zero, suc, ◌+◌, ◌*◌, ◌-◌, ◌/◌, ◌%◌, ◌^◌, ◌<◌, ◌≤◌, ◌⊎◌, true, false, List, [], ◌∷◌, ◌++◌, length, take, drop, get_or, refl, sym, ap, subst, ◌∙◌, append_assoc, inl, inr, arith}
 use Rattle.std.proofs.lemmas.Bool.{cases_Bool, cases_lt, and_parts, eqb-true, le-leb, lt-leb, lt-ltb}
 use Rattle.std.proofs.lemmas.List.{length-take, length-drop, get_or-take, get_or-drop, drop-drop, ext_get_or}
 use Rattle.t1_num.specs.MemoryLaws.{AreBytes}
@@ -67,7 +67,7 @@ blank_bytes all start e i l h =
     ∙ (sym (get_or-drop (32 * start) all (i - 32 * start) 0)
     ∙ (sym (get_or-take 32 (drop (32 * start) all) (i - 32 * start) 0 (omega (arith, l, h))) ∙ blank_zero (block_of all start) e (i - 32 * start)))
 
-pub find_block : (all : List ℕ) (k start : ℕ) → NoBlock all start k ⊎ FoundBlock all start k
+find_block : (all : List ℕ) (k start : ℕ) → NoBlock all start k ⊎ FoundBlock all start k
 find_block all zero start = inl (record { zeros = λ i l h. absurd (omega (arith, l, h)); text_is = lines_none all start })
 find_block all (suc k) start =
     elim (cases_Bool (is_blank (block_of all start))) [
@@ -112,7 +112,7 @@ pub image_begun : (text : List ℕ) (at : ℕ) (ram all rest : List ℕ) → dro
 image_begun text at ram all rest e = record { below = λ i l. absurd (omega (arith, l)); rest_is = e ∙ ap (λ (n : ℕ). lines_of all 0 n ++ rest) (let n : length all / 32 ≡ length all / 32 - 0 = omega arith in n) }
 
 -- all of it was read
-pub image_done : (text : List ℕ) (start at : ℕ) (ram : List ℕ) (least : ℕ) (all rest : List ℕ) → length all ≡ length ram → length ram % 32 ≡ 0 → IsImageSoFar text start at ram least → ImageLeft text at ram least all rest
+image_done : (text : List ℕ) (start at : ℕ) (ram : List ℕ) (least : ℕ) (all rest : List ℕ) → length all ≡ length ram → length ram % 32 ≡ 0 → IsImageSoFar text start at ram least → ImageLeft text at ram least all rest
     → NoBlock all (least / 32) (length all / 32 - least / 32) → (ram ≡ all) × (drop at text ≡ rest)
 image_done text start at ram least all rest size blocks so left none =
     let within = so.within in
@@ -125,7 +125,7 @@ image_done text start at ram least all rest size blocks so left none =
     )
 
 -- the next block is one that a reader takes
-pub block_next : (text : List ℕ) (start at : ℕ) (ram : List ℕ) (least : ℕ) (all : List ℕ) → length all ≡ length ram → length all ≤ 2 ^ 40 → length ram % 32 ≡ 0 → AreBytes all → IsImageSoFar text start at ram least
+block_next : (text : List ℕ) (start at : ℕ) (ram : List ℕ) (least : ℕ) (all : List ℕ) → length all ≡ length ram → length all ≤ 2 ^ 40 → length ram % 32 ≡ 0 → AreBytes all → IsImageSoFar text start at ram least
     → (f : FoundBlock all (least / 32) (length all / 32 - least / 32)) → IsBlockAt least (length ram) (32 * f.number) (block_of all f.number)
 block_next text start at ram least all size most blocks bytes so f =
     let within = so.within in
@@ -142,6 +142,31 @@ block_next text start at ram least all size most blocks bytes so f =
       within = omega (arith, room, size);
       digits = omega (arith, room, most);
     }
+
+-- a block stands next, which a reader takes
+pub record IsBlockNext (text : List ℕ) (at : ℕ) (ram : List ℕ) (least : ℕ) (all rest : List ℕ) : Type 0 where
+  pub block : FoundBlock all (least / 32) (length all / 32 - least / 32)
+  pub good : IsBlockAt least (length ram) (32 * block.number) (block_of all block.number)
+  pub after : List ℕ
+  pub after_is : after ≡ lines_of all (block.number + 1) (least / 32 + (length all / 32 - least / 32) - (block.number + 1)) ++ rest
+  pub reads : drop at text ≡ block_line_of (32 * block.number) (block_of all block.number) ++ after
+
+pub image_cases : (text : List ℕ) (start at : ℕ) (ram : List ℕ) (least : ℕ) (all rest : List ℕ) → length all ≡ length ram → length all ≤ 2 ^ 40 → length ram % 32 ≡ 0 → AreBytes all → IsImageSoFar text start at ram least
+    → ImageLeft text at ram least all rest → ((ram ≡ all) × (drop at text ≡ rest)) ⊎ IsBlockNext text at ram least all rest
+image_cases text start at ram least all rest size most blocks bytes so left =
+    elim (find_block all (length all / 32 - least / 32) (least / 32)) [
+      | inl none ↦ inl (image_done text start at ram least all rest size blocks so left none)
+      | inr f ↦
+          let more : List ℕ = lines_of all (f.number + 1) (least / 32 + (length all / 32 - least / 32) - (f.number + 1)) in
+          let line : List ℕ = block_line_of (32 * f.number) (block_of all f.number) in
+          inr (record {
+            block = f;
+            good = block_next text start at ram least all size most blocks bytes so f;
+            after = more ++ rest;
+            after_is = refl;
+            reads = left.rest_is ∙ (ap (λ (t : List ℕ). t ++ rest) f.text_is ∙ append_assoc line more rest);
+          })
+    ]
 
 block_byte : (all : List ℕ) (number i : ℕ) → 32 * number ≤ i → i < 32 * number + 32 → get_or (block_of all number) (i - 32 * number) 0 ≡ get_or all i 0
 block_byte all number i l h =

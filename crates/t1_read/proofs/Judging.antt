@@ -1,11 +1,11 @@
 -- A line that was refused is the first line at fault.
-use Rattle.std.proofs.Common.{◌≡◌, ℕ, suc, ◌+◌, ◌*◌, ◌<◌, ◌≤◌, true, false, eqb, ltb, if◌then◌else◌, List, [], ◌∷◌, ◌++◌, length, take, drop, get_or, codes, refl, sym, ap, subst, ◌∙◌, append_assoc, inl, inr, arith}
+use Rattle.std.proofs.Common.{◌≡◌, ℕ, suc, ◌+◌, ◌*◌, eqb, ltb, if◌then◌else◌, List, [], ◌∷◌, ◌++◌, length, take, drop, get_or, codes, refl, sym, ap, subst, ◌∙◌, append_assoc, inl, arith}
 use Rattle.std.proofs.lemmas.Bool.{lt-ltb, le-ltb}
 use Rattle.std.proofs.lemmas.List.{append_cancel_right, take-append-drop}
 use Rattle.t1_event.specs.declared.item.Item.{Item}
 use Rattle.t1_event.specs.declared.report.Config.{Config}
 use Rattle.t1_event.specs.declared.report.Report.{Report}
-use Rattle.t1_log.specs.Lines.{config_line_of, entry_line_of, block_line_of, ending_line_of, place_line_of, end_line}
+use Rattle.t1_log.specs.Lines.{config_line_of, entry_line_of, block_line_of, ending_line_of, place_line_of}
 use Rattle.t1_log.specs.Log.{item_line_of, commit_head_of, commit_line_of, console_line_of}
 use Rattle.t1_line_forms.specs.declared.line.Line.{Line}
 use Rattle.t1_line_forms.specs.declared.line.Line.TheVariants as line
@@ -15,7 +15,7 @@ use Rattle.t1_take.proofs.Leaving.{peeked}
 use Rattle.t1_read.specs.declared.error.LogKind.{LogKind}
 use Rattle.t1_read.specs.declared.error.LogKind.TheVariants.{Version, Syntax, Range, Unended, OutOfMemory}
 use Rattle.t1_read.specs.declared.error.LogError.{LogError}
-use Rattle.t1_read.specs.Faults.{SoFar, AtConfig, AtEntry, Within, text_so_far, IsOpen, IsClosed, MayFollow, IsGoodLine, feeds, BeginsWith, Cut, IsFaultOf, NamesFault}
+use Rattle.t1_read.specs.Faults.{SoFar, AtConfig, AtEntry, Within, text_so_far, IsClosed, MayFollow, IsGoodLine, feeds, Cut, IsFaultOf, NamesFault}
 use Rattle.t1_read.specs.Standing.{Stands, IsPast, IsKindOfFault, IsJudged, Ends, Refused}
 
 -- the lines so far are the text before the place

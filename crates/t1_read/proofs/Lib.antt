@@ -1,5 +1,7 @@
 pub mod Judging
 pub mod Feeds
+pub mod Places
+pub mod ElementsFound
 pub mod HeadStands
 pub mod Whole
 pub mod Words

@@ -11,8 +11,8 @@ use Rattle.t1_event.specs.declared.report.Config.{Config}
 use Rattle.t1_event.specs.declared.commit.Commit.{Commit}
 use Rattle.t1_event.specs.declared.report.Report.{Report}
 use Rattle.t1_event.specs.Items.{items_of}
-use Rattle.t1_log.specs.Lines.{config_line_of, entry_line_of, place_line_of, ending_line_of, end_line}
-use Rattle.t1_log.specs.Texts.{lines_from, image_lines_of, head_lines_of, order_lines_of}
+use Rattle.t1_log.specs.Lines.{place_line_of, ending_line_of, end_line}
+use Rattle.t1_log.specs.Texts.{lines_from, head_lines_of, order_lines_of}
 use Rattle.t1_log.specs.Log.{version_line, item_line_of, trace_lines_of, commit_line_of, console_line_of, console_lines_of, text_of}
 use Rattle.t1_take.specs.Items.{IsGoodTrace}
 use Rattle.t1_read.specs.Exact.{NextIsNot}

@@ -1,7 +1,7 @@
 -- Strands that were read stand, and a line of theirs that was refused is the first line at fault.
 use Rattle.std.proofs.Common.{◌≡◌, ◌∙◌, ℕ, ◌+◌, ◌*◌, ◌^◌, ◌<◌, ◌≤◌, List, [], ◌∷◌, ◌++◌, length, drop, get_or, All, Some, refl, sym, ap, subst, append_assoc, append-nil, inl, inr, arith}
 use Rattle.std.proofs.lemmas.Bool.{cases_lt}
-use Rattle.std.proofs.lemmas.List.{length-append, length-drop}
+use Rattle.std.proofs.lemmas.List.{length-append}
 use Rattle.std.proofs.lemmas.List.Elements.{All-push}
 use Rattle.std.proofs.lemmas.Option.{none-some}
 use Rattle.t1_elf.specs.declared.object.Image.{Image}
@@ -196,9 +196,3 @@ has_trace text a b config image traces trace strand ram h o strand_is ram_is goo
       omega (arith, none, length-append traces (trace ∷ []))
       );
 }
-
--- ---- loops over lines
-
--- a line that was taken brings the place on
-pub went_on : (text : List ℕ) (a b : ℕ) (piece : List ℕ) → 0 < length piece → Reads text a b piece → a + 1 ≤ b
-went_on text a b piece some r = (let n = ap length r ∙ length-append piece (drop b text) in omega (arith, n, length-drop a text, length-drop b text, some))

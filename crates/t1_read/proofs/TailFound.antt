@@ -1,6 +1,5 @@
 -- What follows the commits of a log, and its memory order.
 use Rattle.std.proofs.Common.{ℕ, List, [], ◌++◌}
-use Rattle.t1_event.specs.declared.commit.Commit.{Commit}
 use Rattle.t1_event.specs.declared.report.Config.{Config}
 use Rattle.t1_event.specs.declared.report.Place.{Place}
 use Rattle.t1_event.specs.declared.report.Report.{Report}

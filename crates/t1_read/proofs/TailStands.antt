@@ -1,6 +1,6 @@
 -- Where the reader of a log stands behind the commits, behind the memory order and behind the console.
-use Rattle.std.proofs.Common.{◌≡◌, ℕ, zero, suc, ◌+◌, ◌*◌, ◌%◌, ◌<◌, ◌≤◌, ◌++◌, Bool, false, List, [], ◌∷◌, length, drop, get_or, slice_index, All, refl, sym, ap, subst, ◌∙◌, append_assoc, append-nil, inr, arith}
-use Rattle.std.proofs.lemmas.List.{length-append, length-drop, get_or_past}
+use Rattle.std.proofs.Common.{◌≡◌, ℕ, zero, suc, ◌*◌, ◌%◌, ◌<◌, ◌≤◌, ◌++◌, List, [], ◌∷◌, length, drop, get_or, slice_index, All, refl, sym, ap, subst, ◌∙◌, append_assoc, append-nil, inr, arith}
+use Rattle.std.proofs.lemmas.List.{length-append}
 use Rattle.t1_num.specs.MemoryLaws.{AreBytes}
 use Rattle.t1_elf.specs.declared.object.Image.{Image}
 use Rattle.t1_event.specs.declared.trace.Trace.{Trace}
@@ -10,13 +10,11 @@ use Rattle.t1_event.specs.declared.report.Place.{Place}
 use Rattle.t1_event.specs.Items.{items_of}
 use Rattle.t1_log.specs.Log.{version_line, item_line_of, trace_lines_of, commit_line_of, console_lines_of}
 use Rattle.t1_log.specs.Texts.{lines_from, blocks_from, head_lines_of, order_lines_of}
-use Rattle.t1_line_forms.specs.declared.line.Line.{Line}
 use Rattle.t1_line_forms.specs.declared.line.Line.TheVariants as line
-use Rattle.t1_line_forms.specs.Forms.{letter}
 use Rattle.t1_take.specs.Taken.{Reads}
 use Rattle.t1_take.specs.WellFormed.{AreGoodCommits, IsGoodPlace}
 use Rattle.t1_take.proofs.Leaving.{peeked}
-use Rattle.t1_read.specs.Faults.{text_so_far, MayFollow}
+use Rattle.t1_read.specs.Faults.{text_so_far}
 use Rattle.t1_read.specs.Standing.{Stands, IsPast, so_far, HasStrands, HasCommits, HasOrder, HasConsole}
 
 -- ---- texts
@@ -193,18 +191,6 @@ console_leads text a b config image traces log order console h bytes r past = re
   past_order = console_past_order text a b config image traces log order console h r;
   past = past;
 }
-
--- ---- loops over lines
-
--- a line that was read brings the place on
-pub moved : (text : List ℕ) (a b : ℕ) (piece : List ℕ) → 0 < length piece → Reads text a b piece → a + 1 ≤ b
-moved text a b piece some r =
-    let n = ap length r ∙ length-append piece (drop b text) in
-    omega (arith, n, length-drop a text, length-drop b text, some)
-
--- past the end of a text no byte but 0 is read
-pub at_end_of_text : (text : List ℕ) (at byte : ℕ) → length text ≤ at → 0 < byte → get_or text at 0 ≡ byte → ⊥
-at_end_of_text text at byte past some e = (let z = sym (get_or_past text at 0 past) ∙ e in omega (arith, z, some))
 
 -- ---- bytes of the console
 

@@ -18,7 +18,7 @@ use Rattle.t1_take.specs.Limits.{is_in_limits}
 use Rattle.t1_read.specs.declared.error.LogKind.{LogKind}
 use Rattle.t1_read.specs.declared.error.LogKind.TheVariants.{Syntax, Range, Unended}
 use Rattle.t1_read.specs.declared.error.LogError.{LogError}
-use Rattle.t1_read.specs.Faults.{SoFar, AtConfig, AtEntry, Within, text_so_far, IsGoodSoFar, IsClosed, MayFollow, feeds, BeginsWith, NamesFault}
+use Rattle.t1_read.specs.Faults.{SoFar, Within, text_so_far, IsGoodSoFar, IsClosed, MayFollow, feeds, BeginsWith, NamesFault}
 
 -- ---- places
 

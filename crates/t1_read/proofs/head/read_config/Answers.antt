@@ -1,4 +1,4 @@
-use Rattle.std.proofs.Common.{◌≡◌, ◌∙◌, ◌++◌, ℕ, List, drop, Some, ap, sym}
+use Rattle.std.proofs.Common.{◌∙◌, ◌++◌, ℕ, List, ap}
 use Rattle.std.proofs.lemmas.Option.{none-some}
 use Rattle.t1_take.proofs.Leaving.{begun_good, begun_at}
 use Rattle.t1_read.specs.Faults.{AtConfig}

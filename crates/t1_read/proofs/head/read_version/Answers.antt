@@ -1,7 +1,7 @@
-use Rattle.std.proofs.Common.{◌≡◌, ◌∙◌, ◌++◌, ◌∷◌, ◌<◌, ℕ, List, [], drop, codes, ap, sym, subst, append_assoc, inl, true, false, refl, arith}
+use Rattle.std.proofs.Common.{◌≡◌, ◌∙◌, ◌++◌, ℕ, List, drop, codes, ap, sym, append_assoc, inl, true, false, refl, arith}
 use Rattle.t1_log.specs.Log.{version_line}
 use Rattle.t1_take.specs.declared.cursor.Cursor.{Cursor}
-use Rattle.t1_take.proofs.Leaving.{begun_good, begun_at}
+use Rattle.t1_take.proofs.Leaving.{begun_good}
 use Rattle.t1_read.proofs.head.read_version.Goals as goal
 
 pub returns-in-Some-clause-leads : goal.returns-in-Some-clause-leads

@@ -1,4 +1,4 @@
-use Rattle.std.proofs.Common.{◌≡◌, take, arith}
+use Rattle.std.proofs.Common.{arith}
 use Rattle.t1_read.proofs.Feeds.{feeds_more, no_feed}
 use Rattle.t1_read.proofs.lines.first_line.Goals as goal
 

@@ -1,4 +1,4 @@
-use Rattle.std.proofs.Common.{◌≡◌, take, min, length, arith}
+use Rattle.std.proofs.Common.{take, arith}
 use Rattle.std.proofs.lemmas.List.{length-take}
 use Rattle.t1_read.proofs.Feeds.{feeds_more, feeds_few, one_feed, no_feed}
 use Rattle.t1_read.proofs.lines.line_feeds.Goals.{then-text-at-eq10, else-text-at-eq10}

@@ -1,6 +1,6 @@
 use Rattle.std.proofs.Common.{◌≡◌, ◌∙◌, ◌^◌, ◌≤◌, ◌++◌, ◌∷◌, ℕ, List, [], length, drop, get_or, All, Some, inl, inr, ap, sym, subst, arith}
 use Rattle.std.proofs.lemmas.Option.{same_Some, none-some}
-use Rattle.std.proofs.lemmas.List.{length-append, get_or_past}
+use Rattle.std.proofs.lemmas.List.{length-append}
 use Rattle.std.proofs.lemmas.List.Elements.{All-push}
 use Rattle.t1_elf.specs.declared.object.Image.{Image}
 use Rattle.t1_event.specs.declared.item.Item.{Item}
@@ -16,15 +16,16 @@ use Rattle.t1_take.proofs.Leaving.{left_start, left_cases, left_next, not_past, 
 use Rattle.t1_read.specs.Exact.{NextIsNot}
 use Rattle.t1_read.specs.Faults.{IsOpen}
 use Rattle.t1_read.specs.Standing.{HasTraces}
-use Rattle.t1_read.proofs.StrandsFound.{IsElementNext, next_by_byte}
-use Rattle.t1_read.proofs.StrandsStand.{IsAmong, has_items, item_fault, went_on}
-use Rattle.t1_read.proofs.strands.read_items.Goals.{After-peek, After-take_item}
+use Rattle.t1_read.proofs.ElementsFound.{IsElementNext, next_by_byte}
+use Rattle.t1_read.proofs.Places.{went_on, at_end_of_text}
+use Rattle.t1_read.proofs.StrandsStand.{IsAmong, has_items, item_fault}
+use Rattle.t1_read.proofs.strands.read_items.Goals.{At-loop-number, After-peek, After-take_item}
 use Rattle.t1_read.proofs.strands.read_items.Goals as goal
 
 -- ---- what the answers share
 
 -- the items so far are of a strand whose turn it is
-among : (c : After-peek) (config : Config) (image : Image) (traces : List Trace) → HasTraces c.args.text.now c.args.lines.now.at config image traces → IsOpen config traces → c.args.strand ≡ length traces → c.args.ram ≡ config.ram
+among : (c : At-loop-number) (config : Config) (image : Image) (traces : List Trace) → HasTraces c.args.text.now c.args.lines.now.at config image traces → IsOpen config traces → c.args.strand ≡ length traces → c.args.ram ≡ config.ram
     → IsAmong c.args.text.now c.args.lines.now.at c.loop-number.lines.at config image traces c.loop-number.items c.args.strand c.args.ram
 among c config image traces h o strand_is ram_is = record { before = h; is_open = o; strand_is = strand_is; ram_is = ram_is; good = c.loop-number.invariant.good; reads = c.loop-number.invariant.reads }
 
@@ -89,7 +90,7 @@ returns-then-peek-ne105-clause-finds c = λ all rest small good other e.
 pub returns-then-peek-ne105-clause-leads : goal.returns-then-peek-ne105-clause-leads
 returns-then-peek-ne105-clause-leads c = λ config image traces h o strand_is ram_is.
     has_items c.args.text.now c.args.lines.now.at c.loop-number.lines.at config image traces c.loop-number.items c.args.strand c.args.ram
-    (among (goal.at.returns-then-peek-ne105-clause-leads c).After-peek config image traces h o strand_is ram_is)
+    (among (goal.at.returns-then-peek-ne105-clause-leads c).At-loop-number config image traces h o strand_is ram_is)
     (λ first. c.if-peek-ne105.true (byte (goal.at.returns-then-peek-ne105-clause-leads c).After-peek ∙ first))
 
 -- ---- a line was refused
@@ -101,7 +102,7 @@ returns-in-None-clause-finds c = λ all rest small good other e.
 pub returns-in-None-clause-leads : goal.returns-in-None-clause-leads
 returns-in-None-clause-leads c = λ config image traces h o strand_is ram_is.
     item_fault c.args.text.now c.args.lines.now.at c.loop-number.lines.at config image traces c.loop-number.items c.args.strand c.args.ram c.loop-number.number _
-    (among (goal.at.returns-in-None-clause-leads c).After-peek config image traces h o strand_is ram_is)
+    (among (goal.at.returns-in-None-clause-leads c).At-loop-number config image traces h o strand_is ram_is)
     (sym c.loop-number.invariant.count) (sym (byte (goal.at.returns-in-None-clause-leads c).After-peek) ∙ c.if-peek-ne105.false)
     (λ item rest small good e. none-some item (c.in-None.ensures.finds item rest small good (begun_good c.next-cursor.result _ c.next-cursor.ensures) (begun_at c.args.text.now c.next-cursor.result _ _ c.next-cursor.ensures e)).0)
     c.fault.ensures
@@ -115,6 +116,6 @@ returns-clause-finds c = λ all rest small good other e.
 
 pub returns-clause-leads : goal.returns-clause-leads
 returns-clause-leads c = λ config image traces h o strand_is ram_is.
-    let past = get_or_past c.args.text.now c.loop-number.lines.at 0 (omega (arith, c.loop-number.invariant.forward, c.loop-number-test.false)) in
     has_items c.args.text.now c.args.lines.now.at c.loop-number.lines.at config image traces c.loop-number.items c.args.strand c.args.ram
-    (record { before = h; is_open = o; strand_is = strand_is; ram_is = ram_is; good = c.loop-number.invariant.good; reads = c.loop-number.invariant.reads }) (λ first. omega (arith, past, first))
+    (among (goal.at.returns-clause-leads c).At-loop-number config image traces h o strand_is ram_is)
+    (at_end_of_text c.args.text.now c.loop-number.lines.at 105 (omega (arith, c.loop-number.invariant.forward, c.loop-number-test.false)) (omega arith))

@@ -11,7 +11,7 @@ use Rattle.t1_take.proofs.ListTexts.{all_none, start_read, one_more_read}
 use Rattle.t1_take.proofs.Leaving.{left_start, left_cases, left_next, longer_than}
 use Rattle.t1_read.specs.Faults.{IsOpen}
 use Rattle.t1_read.specs.Standing.{HasTraces}
-use Rattle.t1_read.proofs.StrandsFound.{IsElementNext, next_by_count}
+use Rattle.t1_read.proofs.ElementsFound.{IsElementNext, next_by_count}
 use Rattle.t1_read.proofs.strands.read_strands.Goals.{After-read_strand}
 use Rattle.t1_read.proofs.strands.read_strands.Goals as goal
 

@@ -16,5 +16,5 @@ invariant-loop-index l = record {
   low : l.index ≤ l.lines.at;
   reads : Reads l.text l.initial.lines.at l.lines.at (lines_from commit_line_of 0 l.log);
   finds : (all : List Commit) (rest : List ℕ) → AreGoodCommits l.cores (items_of l.traces) all → All IsNamed all → NextIsNot 99 rest → drop l.initial.lines.at l.text ≡ lines_from commit_line_of 0 all ++ rest
-      → IsLeft commit_line_of l.text l.lines.at l.log all rest × (l.index ≤ l.lines.at);
+      → IsLeft commit_line_of l.text l.lines.at l.log all rest;
 }

@@ -13,5 +13,5 @@ invariant-loop-line l = record {
   bytes : AreBytes l.console;
   low : l._line ≤ l.lines.at;
   reads : Reads l.text l.initial.lines.at l.lines.at (console_lines_of l.console);
-  finds : (all rest : List ℕ) → AreBytes all → NextIsNot 107 rest → drop l.initial.lines.at l.text ≡ console_lines_of all ++ rest → ConsoleLeft l.text l.lines.at l.console all rest l.full × (l._line ≤ l.lines.at);
+  finds : (all rest : List ℕ) → AreBytes all → NextIsNot 107 rest → drop l.initial.lines.at l.text ≡ console_lines_of all ++ rest → ConsoleLeft l.text l.lines.at l.console all rest l.full;
 }

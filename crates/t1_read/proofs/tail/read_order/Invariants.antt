@@ -14,5 +14,5 @@ invariant-loop-line l = record {
   low : l._line ≤ l.lines.at;
   reads : Reads l.text l.initial.lines.at l.lines.at (order_lines_of l.order);
   finds : (all : List Place) (rest : List ℕ) → All (IsGoodPlace l.strands) all → NextIsNot 111 rest → drop l.initial.lines.at l.text ≡ order_lines_of all ++ rest
-      → IsLeft (λ number place. place_line_of place) l.text l.lines.at l.order all rest × (l._line ≤ l.lines.at);
+      → IsLeft (λ number place. place_line_of place) l.text l.lines.at l.order all rest;
 }

@@ -1,7 +1,7 @@
-use Rattle.std.proofs.Common.{◌≡◌, ◌∙◌, ◌+◌, ◌∷◌, ◌++◌, ℕ, List, [], length, take, drop, ap, sym, subst, arith}
+use Rattle.std.proofs.Common.{◌≡◌, ◌∙◌, ◌+◌, ℕ, List, take, drop, ap, subst, arith}
 use Rattle.std.proofs.lemmas.List.{length-take}
 use Rattle.t1_read.specs.Faults.{feeds, BeginsWith}
-use Rattle.t1_read.specs.Standing.{IsJudged, Ends, Refused}
+use Rattle.t1_read.specs.Standing.{Refused}
 use Rattle.t1_read.proofs.Feeds.{feeds_few, cut_front, cut_back}
 use Rattle.t1_read.proofs.lines.Lines.fault.Goals as goal
 
