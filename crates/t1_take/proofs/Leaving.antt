@@ -66,13 +66,6 @@ peeked text at rest e =
 pub within_text : (text : List ℕ) (at : ℕ) (rest : List ℕ) → 0 < length rest → drop at text ≡ rest → at < length text
 within_text text at rest some e = (let n = ap length e in omega (arith, n, length-drop at text, some))
 
--- a piece that was passed brings the place on
-pub brought : (text : List ℕ) (at next : ℕ) (piece rest : List ℕ) → 0 < length piece → 0 < length rest → drop at text ≡ piece ++ rest → drop next text ≡ rest → at + 1 ≤ next
-brought text at next piece rest some more e d =
-    let n = ap length e ∙ length-append piece rest in
-    let m = ap length d in
-    omega (arith, n, m, length-drop at text, length-drop next text, some, more)
-
 -- ---- fields of one line, with the cursor that takes them
 
 pub record PiecesLeft {A : Type 0} (f : List A → List ℕ) (text : List ℕ) (start now : Cursor) (done all : List A) (rest : List ℕ) : Type 0 where
@@ -145,16 +138,6 @@ pub longer_than : {A : Type 0} (done all : List A) (x : A) (more : List A) → a
 longer_than done all x more e = (let n = ap length e ∙ length-append done (x ∷ more) in omega (arith, n))
 
 -- ---- loops over lines
-
--- an element stood next and was read
-pub stepped : {A : Type 0} (line : ℕ → A → List ℕ) (text : List ℕ) (at next count : ℕ) (done longer all : List A) (one : A) (rest : List ℕ) (s : IsNext line text at done all rest) → s.one ≡ one
-    → longer ≡ done ++ one ∷ [] → drop next text ≡ lines_from line (length done + 1) s.more ++ rest → 0 < length (line (length done) s.one) → 0 < length rest → count ≤ at
-    → IsLeft line text next longer all rest × (count + 1 ≤ next)
-stepped line text at next count done longer all one rest s e l d some after low =
-    let left : List ℕ = lines_from line (length done + 1) s.more ++ rest in
-    let n = length-append (lines_from line (length done + 1) s.more) rest in
-    let on = brought text at next (line (length done) s.one) left some (omega (arith, n, after)) s.rest_is d in
-    (left_next line text at next done longer all one rest s e l d, omega (arith, on, low))
 
 -- a text that is read to its end has nothing left
 pub not_past : {A : Type 0} (line : ℕ → A → List ℕ) (text : List ℕ) (at : ℕ) (done all : List A) (rest : List ℕ) → IsLeft line text at done all rest → 0 < length rest → length text ≤ at → ⊥
