@@ -1,6 +1,6 @@
 -- What is known of the machine that the words ask for, and of words one after another.
 use Rattle.std.proofs.Common.{◌≡◌, ℕ, suc, ◌+◌, ◌*◌, ◌%◌, ◌<◌, ◌≤◌, ◌==◌, ◌&&◌, ◌||◌, inl, inr, nat_le, Bool, true, List, ◌∷◌, length, drop, map, get_or, Option, Some, None, Result, Ok, Err, ◌^◌, refl, ap, sym, ◌∙◌, subst, arith}
-use Rattle.std.proofs.lemmas.Bool.{and_parts, or_cases, leb-true, eqb-true}
+use Rattle.std.proofs.lemmas.Bool.{cases_Bool, and_parts, or_cases, leb-true, eqb-true}
 use Rattle.std.proofs.Math.ListN.{drop_of_length-le}
 use Rattle.std.proofs.Math.Seq.{drop-cons}
 use Rattle.std.specs.Prelude.{IfOk}
@@ -11,7 +11,7 @@ use Rattle.t1_elf.specs.Parsed.{KeepsTo}
 use Rattle.t1_event.specs.declared.report.Config.{Config}
 use Rattle.t1_machine.specs.Start.{IsRunnable, setup_of}
 use Rattle.t1_cli.specs.declared.command.Reading.{Reading}
-use Rattle.t1_cli.specs.Words.{read_next, ended, options_after}
+use Rattle.t1_cli.specs.Words.{config_in_limits, read_next, ended, options_after}
 use Rattle.t1_take.specs.Limits.{is_set_count, is_in_limits}
 
 -- ---- limits
@@ -34,10 +34,22 @@ few_sets n =
     (or_few n 64 _ (omega arith, omega arith) (or_few n 128 _ (omega arith, omega arith) (or_few n 256 _ (omega arith, omega arith)
     (or_few n 512 _ (omega arith, omega arith) (λ h. subst (λ (m : ℕ). IsFew m) (sym (eqb-true n 1024 h)) (omega arith, omega arith)))))))))))
 
--- a machine within the limits, with an image of its RAM and an aligned entry, can be run
-pub runnable : (config : Config) (image : Image) → is_in_limits config ≡ true → length image.ram ≡ config.ram → image.entry % 4 ≡ 0
-    → IsRunnable (setup_of config image)
-runnable config image h size entry =
+-- the limits, one by one
+pub record AreLimits (config : Config) : Type 0 where
+  pub some_cores : 1 ≤ config.cores
+  pub few_cores : config.cores ≤ 8
+  pub some_strands : 1 ≤ config.strands
+  pub few_strands : config.strands ≤ 4
+  pub blocks : config.ram % 65536 ≡ 0
+  pub few_bytes : config.ram ≤ 268435456
+  pub some_sets : 0 < config.sets
+  pub few_sets : config.sets ≤ 1024
+  pub some_units : 1 ≤ config.budget
+  pub low_budget : config.budget ≤ 1000000
+  pub few_units : config.budget * (config.cores * config.strands) ≤ 1000000
+
+pub limits_of : (config : Config) → is_in_limits config ≡ true → AreLimits config
+limits_of config h =
     let cores : Bool = nat_le 1 config.cores && nat_le config.cores 8 in
     let strands : Bool = nat_le 1 config.strands && nat_le config.strands 4 in
     let low : Bool = nat_le 65536 config.ram in
@@ -59,7 +71,6 @@ runnable config image h size entry =
     let k = and_parts few all g.1 in
     let counts = few_sets config.sets f.0 in
     record {
-      shape = refl;
       some_cores = leb-true 1 config.cores core.0;
       few_cores = leb-true config.cores 8 core.1;
       some_strands = leb-true 1 config.strands strand.0;
@@ -69,7 +80,35 @@ runnable config image h size entry =
       some_sets = counts.0;
       few_sets = counts.1;
       some_units = leb-true 1 config.budget g.0;
+      low_budget = leb-true config.budget 1000000 k.0;
       few_units = leb-true (config.budget * (config.cores * config.strands)) 1000000 k.1;
+    }
+
+-- other numbers make no machine
+pub no_machine : (config : Config) → (is_in_limits config ≡ true → ⊥) → ◌≡◌ {A = Option Config} None (config_in_limits config)
+no_machine config out =
+    elim (cases_Bool (is_in_limits config)) [
+      | inl h ↦ absurd (out h)
+      | inr h ↦ rw h refl
+    ]
+
+-- a machine within the limits, with an image of its RAM and an aligned entry, can be run
+pub runnable : (config : Config) (image : Image) → is_in_limits config ≡ true → length image.ram ≡ config.ram → image.entry % 4 ≡ 0
+    → IsRunnable (setup_of config image)
+runnable config image h size entry =
+    let l = limits_of config h in
+    record {
+      shape = refl;
+      some_cores = l.some_cores;
+      few_cores = l.few_cores;
+      some_strands = l.some_strands;
+      few_strands = l.few_strands;
+      blocks = l.blocks;
+      few_bytes = l.few_bytes;
+      some_sets = l.some_sets;
+      few_sets = l.few_sets;
+      some_units = l.some_units;
+      few_units = l.few_units;
       image = size;
       entry = entry;
     }

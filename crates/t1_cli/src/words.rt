@@ -1,12 +1,13 @@
 //! The reader of the words.
-ghost use Rattle.std.specs.Prelude.{◌≡◌, ◌≤◌, ◌*◌, ◌%◌, ◌==◌, ◌&&◌, nat_le, map, string_bytes, IfSome, IsTrue};
+ghost use Rattle.std.specs.Prelude.{ℕ, ◌≡◌, ◌≤◌, map, string_bytes, IfSome, IsTrue};
 ghost use Rattle.t1_cli.specs.Words.{digits_from, number_of, flag_of, once, with_number, complete, begun, numbered, read_next, ended, options_of, config_in_limits, config_of, has_no_machine, is_bare, run_command, live_command, bare_command, guest_command, command_named, command_of, schedule_of, task_of, IsCommand, IsTask};
-ghost use Rattle.t1_take.specs.Limits.{is_ram, is_set_count, is_budget, is_in_limits};
+ghost use Rattle.t1_take.specs.Limits.{is_in_limits};
 
 use crate::command::{Command, Flag, Given, Reading, Run, Task};
 use t1_event::Config;
 use t1_gen::MOST_SIZE;
 use t1_machine::Schedule;
+use t1_take::is_in_limits;
 
 /// The value of digits, where each is one and the value has 64 bits.
 #[tactic(auto, unfolding(crate::specs::Words::digits_from))]
@@ -184,49 +185,12 @@ fn read_options(words: &[String]) -> Option<Given>
     end(reading)
 }
 
-/// Whether this many sets can be.
-#[tactic(auto, unfolding(t1_take::specs::Limits::is_set_count))]
-fn is_set_count(sets: u64) -> bool
-    ensures value { result ≡ is_set_count sets }
-    ensures fits { IsTrue result → sets ≤ 1024 }
-{
-    sets == 1
-        || sets == 2
-        || sets == 4
-        || sets == 8
-        || sets == 16
-        || sets == 32
-        || sets == 64
-        || sets == 128
-        || sets == 256
-        || sets == 512
-        || sets == 1024
-}
-
-/// Whether this much RAM can be.
-fn is_ram(ram: u64) -> bool
-    ensures { result ≡ is_ram ram }
-{
-    65_536 <= ram && (ram <= 268_435_456 && ram % 65_536 == 0)
-}
-
-/// Whether a budget can be that of each of so many strands.
-fn is_budget(budget: u64, cores: u64, strands: u64) -> bool
-    requires cores { cores ≤ 8 }
-    requires strands { strands ≤ 4 }
-    ensures { result ≡ is_budget budget (cores * strands) }
-{
-    1 <= budget && (budget <= 1_000_000 && budget * (cores * strands) <= 1_000_000)
-}
-
-/// Whether the numbers of a machine are in their limits.
-fn is_machine(cores: u64, strands: u64, ram: u64, sets: u64, budget: u64) -> bool
-    ensures value { result ≡ is_in_limits (record { cores = cores; strands = strands; ram = ram; sets = sets; budget = budget }) }
+/// Whether these numbers are small enough for the fields of a machine in its limits.
+fn are_small(cores: u64, strands: u64, sets: u64, budget: u64) -> bool
     ensures fits { IsTrue result → (cores ≤ 8) × (strands ≤ 4) × (sets ≤ 1024) × (budget ≤ 1000000) }
+    ensures only { (ram : ℕ) → IsTrue (is_in_limits (record { cores = cores; strands = strands; ram = ram; sets = sets; budget = budget })) → IsTrue result }
 {
-    (1 <= cores && cores <= 8)
-        && ((1 <= strands && strands <= 4)
-            && (is_ram(ram) && (is_set_count(sets) && is_budget(budget, cores, strands))))
+    cores <= 8 && (strands <= 4 && (sets <= 1024 && budget <= 1_000_000))
 }
 
 /// The machine of these numbers, where they are in their limits.
@@ -234,16 +198,21 @@ fn machine(cores: u64, strands: u64, ram: u64, sets: u64, budget: u64) -> Option
     ensures value { result ≡ config_in_limits (record { cores = cores; strands = strands; ram = ram; sets = sets; budget = budget }) }
     ensures limits { IfSome result (λ config. IsTrue (is_in_limits config)) }
 {
-    if !is_machine(cores, strands, ram, sets, budget) {
+    if !are_small(cores, strands, sets, budget) {
         return None;
     }
-    Some(Config {
+    let config = Config {
         cores: cores as u8,
         strands: strands as u8,
         ram,
         sets: sets as u32,
         budget: budget as u32,
-    })
+    };
+    if is_in_limits(&config) {
+        Some(config)
+    } else {
+        None
+    }
 }
 
 /// The machine that the options ask for, where it is in its limits.

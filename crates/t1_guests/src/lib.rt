@@ -5,4 +5,4 @@ mod logs;
 mod texts;
 
 pub use logs::{last_got, last_put};
-pub use texts::{counter, halt, message, store_membar_load, two_readers};
+pub use texts::{counter, halt, message, store_membar_load, stored_log, two_readers};

@@ -10,6 +10,34 @@ const HALT: &str = "\
         wr %g0, 0, %asr26
 ";
 
+/// The log of one strand that stores 5 to 200 hex, loads it and halts.
+pub fn stored_log() -> &'static str {
+    STORED_LOG
+}
+
+const STORED_LOG: &str = "t1log 1
+config cores 1 strands 1 ram 65536 sets 1024 budget 10
+entry 0000000100
+m 0000000100 82102005c2702200c4582200b580200000000000000000000000000000000000
+i 0 0 fetch 0000000100 4 82102005 - M 0 0
+i 0 1 fetch 0000000104 4 c2702200 - H 1
+i 0 2 store 0000000200 8 - 0000000000000005 M 1 1
+i 0 3 fetch 0000000108 4 c4582200 - H 1
+i 0 4 load 0000000200 8 0000000000000005 - M 2 2
+i 0 5 fetch 000000010c 4 b5802000 - H 3
+e 0 halted 4 0000000000000110
+c 0 0 0 0 0 -
+c 1 0 0 2 - -
+c 2 0 0 4 0 -
+o 0 0
+o 0 1
+o 0 3
+o 0 2
+o 0 4
+o 0 5
+end
+";
+
 /// Strand s stores 1 to 800 hex + 400 hex * s and loads the other's line, with `membar #StoreLoad` between.
 pub fn store_membar_load() -> &'static str {
     STORE_MEMBAR_LOAD

@@ -47,8 +47,10 @@ fn is_budget(budget: u32, strands: u64) -> bool
     1 <= budget && (budget <= 1_000_000 && u64::from(budget) * strands <= 1_000_000)
 }
 
-/// Whether the numbers of a machine are in their limits.
-fn is_in_limits(config: &Config) -> bool
+/// Whether the numbers of a machine are in their limits: 1 to 8 cores of 1 to 4 strands, RAM of 64 KiB to
+/// 256 MiB in steps of 64 KiB, a power of two up to 1,024 of L2 sets, and a budget of units so that all
+/// strands make at most 1,000,000.
+pub fn is_in_limits(config: &Config) -> bool
     ensures { result ≡ is_in_limits config.now }
 {
     (1 <= config.cores && config.cores <= 8)

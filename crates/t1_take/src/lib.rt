@@ -31,6 +31,6 @@ mod tests;
 
 pub use commit::take_commit;
 pub use cursor::Cursor;
-pub use head::{take_block, take_config, take_entry};
+pub use head::{is_in_limits, take_block, take_config, take_entry};
 pub use item::{End, take_end, take_item};
 pub use lists::{append, take_console, take_place};

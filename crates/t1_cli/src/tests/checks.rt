@@ -1,13 +1,13 @@
 //! The checker of logs.
 
-use super::devices::LOG;
 use super::{CALM, Came, RUN, STORE_AND_LOAD, file_of, is_told, serve};
 use std::alloc::{AllocError, Global};
 use std::test::Fail;
+use t1_guests::stored_log;
 
 /// The log with one text in place of another.
 fn changed(alloc: Global, from: &str, to: &str) -> Result<Vec<u8>, AllocError> {
-    let (front, rest) = LOG.split_once(from).unwrap_or((LOG, ""));
+    let (front, rest) = stored_log().split_once(from).unwrap_or((stored_log(), ""));
     let mut text = Vec::from_slice(alloc, front.as_bytes())?;
     text.extend_from_slice(to.as_bytes())?;
     text.extend_from_slice(rest.as_bytes())?;
@@ -62,8 +62,8 @@ fn the_first_fault_of_a_log_is_told(rt: HostRuntime) -> Result<(), Fail> {
     // A text of the log, what stands in its place, and the line on err.
     let table = [
         ("\nend\n", "\n", "log line 20: Unended"),
-        (LOG, "", "log line 0: Unended"),
-        (LOG, "t1log 1", "log line 0: Unended"),
+        (stored_log(), "", "log line 0: Unended"),
+        (stored_log(), "t1log 1", "log line 0: Unended"),
         ("t1log 1", "t1log 0", "log line 1: Version"),
         ("cores 1", "cores 01", "log line 2: Syntax"),
         ("cores 1", "cores 9", "log line 2: Range"),

@@ -4,31 +4,8 @@ use super::{CALM, Plan, RUN, STORE_AND_LOAD, file_of, serve, words_of};
 use crate::input::MOST_INPUT;
 use crate::serial::t1_serial;
 use std::test::Fail;
+use t1_guests::stored_log;
 use t1_io::{Failed, MemSink, Source};
-
-/// The log of its run.
-pub(super) const LOG: &str = "t1log 1
-config cores 1 strands 1 ram 65536 sets 1024 budget 10
-entry 0000000100
-m 0000000100 82102005c2702200c4582200b580200000000000000000000000000000000000
-i 0 0 fetch 0000000100 4 82102005 - M 0 0
-i 0 1 fetch 0000000104 4 c2702200 - H 1
-i 0 2 store 0000000200 8 - 0000000000000005 M 1 1
-i 0 3 fetch 0000000108 4 c4582200 - H 1
-i 0 4 load 0000000200 8 0000000000000005 - M 2 2
-i 0 5 fetch 000000010c 4 b5802000 - H 3
-e 0 halted 4 0000000000000110
-c 0 0 0 0 0 -
-c 1 0 0 2 - -
-c 2 0 0 4 0 -
-o 0 0
-o 0 1
-o 0 3
-o 0 2
-o 0 4
-o 0 5
-end
-";
 
 /// The lines of its words.
 const WORDS: &str = "0000000100 82102005 or %g0, 5, %g1
@@ -53,7 +30,7 @@ fn first_lines(text: &[u8], lines: u32) -> &[u8] {
 
 #[test]
 fn each_call_of_a_device_may_fail(rt: HostRuntime) -> Result<(), Fail> {
-    let text = LOG.as_bytes();
+    let text = stored_log().as_bytes();
     // The source, of 136 bytes in pieces of 16, is called nine times, and once more at its end.
     for call in 1..=10 {
         let file = file_of(rt.alloc(), STORE_AND_LOAD, 0x100, 0x100)?;

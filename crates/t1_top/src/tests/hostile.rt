@@ -6,7 +6,7 @@ use std::fmt::Write;
 use std::sync::Wait;
 use std::test::Fail;
 use std::thread::Threads;
-use t1_guests::halt;
+use t1_guests::{halt, stored_log};
 
 /// An output of few bytes.
 const SMALL: Plan = Plan { room: 4096, ..CALM };
@@ -15,30 +15,6 @@ const RUN: &str = "run --cores 1 --strands 1 --ram 65536 --budget 10";
 
 /// `mov 5, %g1`; `stx %g1, [0x200]`; `ldx [0x200], %g2`; halt.
 const STORE_AND_LOAD: &str = ".org 0x100\n.word 0x82102005, 0xc2702200, 0xc4582200, 0xb5802000\n";
-
-/// The log of its run.
-const LOG: &str = "t1log 1
-config cores 1 strands 1 ram 65536 sets 1024 budget 10
-entry 0000000100
-m 0000000100 82102005c2702200c4582200b580200000000000000000000000000000000000
-i 0 0 fetch 0000000100 4 82102005 - M 0 0
-i 0 1 fetch 0000000104 4 c2702200 - H 1
-i 0 2 store 0000000200 8 - 0000000000000005 M 1 1
-i 0 3 fetch 0000000108 4 c4582200 - H 1
-i 0 4 load 0000000200 8 0000000000000005 - M 2 2
-i 0 5 fetch 000000010c 4 b5802000 - H 3
-e 0 halted 4 0000000000000110
-c 0 0 0 0 0 -
-c 1 0 0 2 - -
-c 2 0 0 4 0 -
-o 0 0
-o 0 1
-o 0 3
-o 0 2
-o 0 4
-o 0 5
-end
-";
 
 /// The file of a guest.
 fn file_of<R: Threads + Wait + Sync>(rt: &R, alloc: Global, guest: &str) -> Result<Vec<u8>, Fail> {
@@ -53,7 +29,7 @@ fn ended(came: &Came, status: u8, told: &str, out: &[u8]) -> bool {
 
 /// So many first bytes of the log.
 fn front(bytes: usize) -> &'static [u8] {
-    LOG.as_bytes().get(..bytes).unwrap_or(b"")
+    stored_log().as_bytes().get(..bytes).unwrap_or(b"")
 }
 
 #[test]
@@ -61,7 +37,7 @@ fn each_call_of_a_device_may_fail(rt: HostRuntime) -> Result<(), Fail> {
     let file = file_of(&rt, rt.alloc(), STORE_AND_LOAD)?;
     // Each of the 21 lines is one write.
     let mut bytes = 0usize;
-    for (line, write) in LOG.lines().zip(1u32..) {
+    for (line, write) in stored_log().lines().zip(1u32..) {
         let plan = Plan { write, ..SMALL };
         let came = serve(&rt, rt.alloc(), RUN, file.clone()?, plan)?;
         assert!(rt;
@@ -79,8 +55,8 @@ fn each_call_of_a_device_may_fail(rt: HostRuntime) -> Result<(), Fail> {
     let bytewise = Plan { piece: 1, ..SMALL };
     // What is planned, the status, the line on err, and the bytes that are written.
     let table = [
-        (Plan { write: 22, ..SMALL }, 0, "", LOG.len()),
-        (Plan { read: 11, ..SMALL }, 0, "", LOG.len()),
+        (Plan { write: 22, ..SMALL }, 0, "", stored_log().len()),
+        (Plan { read: 11, ..SMALL }, 0, "", stored_log().len()),
         (
             Plan {
                 write: 30,
@@ -90,7 +66,7 @@ fn each_call_of_a_device_may_fail(rt: HostRuntime) -> Result<(), Fail> {
             "t1sim: write fault\n",
             29,
         ),
-        (bytewise, 0, "", LOG.len()),
+        (bytewise, 0, "", stored_log().len()),
     ];
     for (plan, status, told, bytes) in table {
         let came = serve(&rt, rt.alloc(), RUN, file.clone()?, plan)?;
@@ -139,7 +115,7 @@ fn a_file_that_is_cut_or_points_outside_is_refused(rt: HostRuntime) -> Result<()
 fn a_log_that_is_cut_or_kills_too_much_is_refused(rt: HostRuntime) -> Result<(), Fail> {
     let mut text = Vec::new(rt.alloc());
     let mut line = 0u32;
-    for byte in LOG.as_bytes() {
+    for byte in stored_log().as_bytes() {
         let came = serve(&rt, rt.alloc(), "check", text.clone()?, SMALL)?;
         let told = format!(in rt.alloc(); "t1sim: log line {line}: Unended\n")?;
         assert!(rt; ended(&came, 2, told.as_str(), b""), "{told}");
@@ -149,7 +125,7 @@ fn a_log_that_is_cut_or_kills_too_much_is_refused(rt: HostRuntime) -> Result<(),
         }
     }
     let commit = "c 1 0 0 2 - -";
-    let (before, after) = LOG.split_once(commit).unwrap_or(("", ""));
+    let (before, after) = stored_log().split_once(commit).unwrap_or(("", ""));
     for (kills, told) in [(64, ""), (65, "t1sim: log line 13: Syntax\n")] {
         let mut text = format!(in rt.alloc(); "{before}{commit}")?;
         for set in 0..kills {
