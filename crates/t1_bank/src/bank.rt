@@ -1,6 +1,5 @@
 //! The bank.
 ghost use Rattle.std.specs.Prelude.{◌≡◌, ℕ, ◌+◌, ◌*◌, ◌/◌, ◌%◌, ◌^◌, ◌<◌, ◌≤◌, ◌++◌, List, length, IfOk, true};
-ghost use Rattle.t1_shape.specs.Shapes.Shape.{T1};
 ghost use Rattle.t1_shape.specs.Numbers.{banks, most_l2_sets};
 ghost use Rattle.t1_event.specs.BankRule.{BankState, bank_start, is_fit, refused, served_well, bank_well, served_by, bank_with};
 
@@ -54,14 +53,14 @@ impl Bank {
     /// Bank number `bank` of a machine, over its lines of `ram`, which are copied. It holds no line
     /// in its L2, and its directory shows none.
     pub fn new(alloc: Global, bank: u8, config: &Config, ram: &[u8]) -> Result<Bank, AllocError>
-        requires bank { bank < banks T1 }
+        requires bank { bank < banks config.now.chip }
         requires cores { config.now.cores ≤ 8 }
-        requires sets { (0 < config.now.sets) × (config.now.sets ≤ most_l2_sets T1) }
+        requires sets { (0 < config.now.sets) × (config.now.sets ≤ most_l2_sets config.now.chip) }
         requires ram { (length ram.now % 65536 ≡ 0) × (length ram.now ≤ 2 ^ 28) }
-        ensures { IfOk result (λ b. b ≡ bank_start T1 bank config.now.cores config.now.sets ram.now) }
+        ensures { IfOk result (λ b. b ≡ bank_start config.now.chip bank config.now.cores config.now.sets ram.now) }
     {
-        let directory = Directory::new(alloc, config.cores)?;
-        let array = BankArray::new(alloc, bank, config.sets, ram)?;
+        let directory = Directory::new(alloc, config.chip, config.cores)?;
+        let array = BankArray::new(alloc, config.chip, bank, config.sets, ram)?;
         Ok(Bank {
             cores: config.cores,
             ram: ram.len() as u64,

@@ -1,16 +1,20 @@
-ghost use Rattle.std.specs.Prelude.{◌≡◌};
+ghost use Rattle.std.specs.Prelude.{◌≡◌, false};
+ghost use Rattle.t1_num.specs.declared.chip.ChipKind.TheVariants.{T1};
 
 use crate::bank::Bank;
 use crate::tables::{Case, one_set, two_sets};
 use std::process::Abort;
 use std::test::Fail;
 use t1_event::Config;
+use t1_num::ChipKind;
 use t1_packet::{Cache, Kill, Op, Request, Served};
 
 fn config(cores: u8, sets: u32) -> Config
-    ensures { result ≡ record { cores = cores; strands = 4; ram = 65536; sets = sets; budget = 10 } }
+    ensures { result ≡ record { chip = T1; hyper = false; cores = cores; strands = 4; ram = 65536; sets = sets; budget = 10 } }
 {
     Config {
+        chip: ChipKind::T1,
+        hyper: false,
         cores,
         strands: 4,
         ram: 65536,
@@ -158,5 +162,46 @@ fn accesses_are_those_of_the_plain_rule(rt: HostRuntime) -> Result<(), Fail> {
     assert_cases(&rt, &mut bank, one_set());
     let mut bank = Bank::new(rt.alloc(), 0, &config(3, 2), &ram)?;
     assert_cases(&rt, &mut bank, two_sets());
+    Ok(())
+}
+
+/// A bank of 16 ways: the 17th line of a set makes room, and kills the copy of the line that goes.
+#[test]
+fn second_chip_has_sixteen_ways(rt: HostRuntime) -> Result<(), Fail> {
+    let ram = Vec::from_elem(rt.alloc(), 7u8, 65536)?;
+    let config = Config {
+        chip: ChipKind::T2,
+        hyper: false,
+        cores: 1,
+        strands: 1,
+        ram: 65536,
+        sets: 1,
+        budget: 10,
+    };
+    let mut bank = Bank::new(rt.alloc(), 0, &config, ram.as_slice())?;
+    for k in 0..17u64 {
+        let op = Op::Load {
+            addr: 0x1000 + 0x200 * k,
+            size: 8,
+            way: (k / 4 % 4) as u8,
+        };
+        let served = bank.serve(Request {
+            core: 0,
+            strand: 0,
+            item: k as u32,
+            seen: 0,
+            op,
+        });
+        if k < 16 {
+            assert_eq!(rt; served.evicted, None);
+            assert_eq!(rt; served.kills.len(), 0);
+        } else {
+            assert_eq!(rt; served.evicted, Some(0x1000));
+            assert_eq!(rt; served.kills.len(), 1);
+            for kill in served.kills.as_slice() {
+                assert_eq!(rt; *kill, Kill::new(0, Cache::Dcache, 0, 0));
+            }
+        }
+    }
     Ok(())
 }

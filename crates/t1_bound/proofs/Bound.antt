@@ -1,6 +1,5 @@
 -- The steps of a list of slots are paid for.
 use Rattle.std.proofs.Common.{◌≡◌, ◌≤◌, ◌+◌, ◌*◌, ℕ, is_some, List, [], ◌∷◌, length, Option, Some, None, refl, ◌∙◌, arith, if◌then◌else◌}
-use Rattle.t1_shape.specs.Shapes.Shape.{T1}
 use Rattle.t1_joint.specs.Start.{Setup}
 use Rattle.t1_machine.specs.Slots.{slot_at}
 use Rattle.t1_machine.specs.Machine.{MachineState, stepped, or_same}
@@ -39,8 +38,8 @@ pub steps_pay : (m : MachineState) (ns : List ℕ) → IsSound m → StepsPay m 
 unfolding machine_after steps_done
 steps_pay m [] h = record { weight = omega arith; tokens = omega arith; log = omega arith; room = refl }
 steps_pay m (n ∷ ns) h =
-    paid_if m (stepped m (slot_at T1 n)) ns
-    (λ k e. (sound_step m k (slot_at T1 n) h e, step_pays steps steps_fall m k h.live (slot_at T1 n) h.few e)) h (λ k s. steps_pay k ns s)
+    paid_if m (stepped m (slot_at m.chip n)) ns
+    (λ k e. (sound_step m k (slot_at m.chip n) h e, step_pays steps steps_fall m k h.live (slot_at m.chip n) h.few e)) h (λ k s. steps_pay k ns s)
 
 -- ---- from a start
 

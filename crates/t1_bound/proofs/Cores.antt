@@ -3,7 +3,6 @@ use Rattle.std.proofs.Common.{◌≡◌, ◌≤◌, ◌+◌, ◌*◌, ℕ, Bool,
 use Rattle.std.specs.Prelude.{IsSome}
 use Rattle.std.specs.List.{slice_get, All}
 use Rattle.std.proofs.lemmas.List.Elements.{All-set}
-use Rattle.t1_shape.specs.Shapes.Shape.{T1}
 use Rattle.t1_packet.specs.Ops.{op_dest}
 use Rattle.t1_sbuf.specs.declared.entry.Entry.{Entry}
 use Rattle.t1_sbuf.specs.Entries.{next_unsent, next_to_send_of, sent_next}
@@ -122,7 +121,7 @@ next_pays : (w : Weights) → Falls w → (x : Asker) (t : ThreadState) (o : Opt
 next_pays w f x t None e live = tt
 next_pays w f x t (Some g) e live =
     let k = sent_weight w t.stores g e in
-    drains_if (has_room x.room (op_dest T1 (store_op g))) w t _ _ (buffer_pays w (w.request + w.drop) t (sent_next t.stores) _ t.items live (omega (arith, k, f.drains))) tt
+    drains_if (has_room x.room (op_dest x.chip (store_op g))) w t _ _ (buffer_pays w (w.request + w.drop) t (sent_next t.stores) _ t.items live (omega (arith, k, f.drains))) tt
 
 stores_pay : (w : Weights) → Falls w → (x : Asker) (t : ThreadState) (es : List Entry) → t.stores ≡ es → IsLive t → Drains w t (drain_stores x t es)
 stores_pay w f x t [] e live = tt

@@ -1,6 +1,5 @@
 -- A run by a schedule ends, and is short.
 use Rattle.std.proofs.Common.{◌≡◌, ◌≤◌, ◌*◌, ◌<◌, ℕ, zero, suc, true, List, length, Option, Some, None, refl, sym, subst, arith}
-use Rattle.t1_shape.specs.Shapes.Shape.{T1}
 use Rattle.t1_joint.specs.Start.{Setup}
 use Rattle.t1_machine.specs.declared.schedule.Schedule.{Schedule}
 use Rattle.t1_machine.specs.Slots.{slots, slot_at}
@@ -22,19 +21,19 @@ record HasRun (m : MachineState) (standing : Standing) : Type 0 where
   run : RunsFrom m standing last
 
 run_by : (m : MachineState) (standing : Standing) (o : Option ℕ) → next_of m standing ≡ o
-    → ((n : ℕ) → next_of m standing ≡ Some n → HasRun (after_slot m (slot_at T1 n)) (standing_after standing n)) → HasRun m standing
+    → ((n : ℕ) → next_of m standing ≡ Some n → HasRun (after_slot m (slot_at m.chip n)) (standing_after m.chip standing n)) → HasRun m standing
 run_by m standing None e more = record { last = m; run = ends_here m standing e }
 run_by m standing (Some n) e more = let r = more n e in record { last = r.last; run = goes_on m standing n r.last e r.run }
 
 next_falls : (m : MachineState) (standing : Standing) (n : ℕ) → IsReached m → next_of m standing ≡ Some n
-    → machine_weight steps (after_slot m (slot_at T1 n)) < machine_weight steps m
-next_falls m standing n r e = slot_falls m n r (found_enabled (slots T1) m (tries standing) n e)
+    → machine_weight steps (after_slot m (slot_at m.chip n)) < machine_weight steps m
+next_falls m standing n r e = slot_falls m n r (found_enabled (slots m.chip) m (tries m.chip standing) n e)
 
 has_run : (most : ℕ) (m : MachineState) (standing : Standing) → IsReached m → machine_weight steps m ≤ most → HasRun m standing
 has_run zero m standing r h = run_by m standing (next_of m standing) refl (λ n e. absurd (let f = next_falls m standing n r e in omega (arith, f, h)))
 has_run (suc most) m standing r h =
     run_by m standing (next_of m standing) refl
-    (λ n e. let f = next_falls m standing n r e in has_run most (after_slot m (slot_at T1 n)) (standing_after standing n) (reached_slot m n r) (omega (arith, f, h)))
+    (λ n e. let f = next_falls m standing n r e in has_run most (after_slot m (slot_at m.chip n)) (standing_after m.chip standing n) (reached_slot m n r) (omega (arith, f, h)))
 
 -- ---- a run is short
 
@@ -43,8 +42,8 @@ run_steps : (m : MachineState) (standing : Standing) (ns : List ℕ) (last : Mac
 unfolding steps_done
 run_steps m standing ns last (Ends k at h) = refl
 run_steps m standing ns last (Goes k at n rest end h run) =
-    let on : is_enabled k (slot_at T1 n) ≡ true = found_enabled (slots T1) k (tries at) n h in
-    let more = run_steps (after_slot k (slot_at T1 n)) (standing_after at n) rest end run in
+    let on : is_enabled k (slot_at k.chip n) ≡ true = found_enabled (slots k.chip) k (tries k.chip at) n h in
+    let more = run_steps (after_slot k (slot_at k.chip n)) (standing_after k.chip at n) rest end run in
     rw on (omega (arith, more))
 
 run_pays : (m : MachineState) (standing : Standing) (ns : List ℕ) (last : MachineState) → IsRun m standing ns last → IsSound m → StepsPay m last (length ns)

@@ -1,6 +1,5 @@
 -- A strand that executes pays for its step.
 use Rattle.std.proofs.Common.{◌+◌, ◌<◌, ℕ, Bool, true, false, nat_lt, List, [], ◌∷◌, length, Option, Some, None, arith, if◌then◌else◌}
-use Rattle.t1_shape.specs.Shapes.Shape.{T1}
 use Rattle.t1_space.specs.Places.{is_io}
 use Rattle.t1_state.specs.Interrupts.{due_of}
 use Rattle.t1_exec.specs.declared.need.Need.{Need}
@@ -44,7 +43,7 @@ acts_if false w t y z p q = q
 
 asked_pays : (w : Weights) (x : Asker) (t : ThreadState) (o : Op) (q : Phase) → IsLiveAt t.strand.units t.budget q → CanGo w (w.request + w.drop) t.phase q → Acts w t (asked x t o q)
 unfolding asked
-asked_pays w x t o q live can = acts_if (has_room x.room (op_dest T1 o)) w t _ _ (goes_pay w (w.request + w.drop) t q t.items live can) tt
+asked_pays w x t o q live can = acts_if (has_room x.room (op_dest x.chip o)) w t _ _ (goes_pay w (w.request + w.drop) t q t.items live can) tt
 
 module _ (w : Weights) (f : Falls w) (x : Asker) (icache dcache : CacheState) (t : ThreadState) where
   -- ---- between two units
@@ -109,7 +108,7 @@ module _ (w : Weights) (f : Falls w) (x : Asker) (icache dcache : CacheState) (t
         goes_if (is_fence mask) (if_empty t.stores (plan.Membar mask)) (plan.Membar mask) (goes_empty t.stores (plan.Membar mask) (item_pays (membar_item mask))) (item_pays (membar_item mask))
     need_pays need.Flush = goes_empty t.stores plan.Flush (item_pays flush_item)
     need_pays (need.Store addr size value) =
-        goes_if (nat_lt (length t.stores) 8) _ _ (store_pays w w.drop within addr size value live (λ units. omega (arith, f.stores))) tt
+        goes_if (nat_lt (length t.stores) 8) _ _ (store_pays w w.drop within x.chip addr size value live (λ units. omega (arith, f.stores))) tt
     need_pays (need.Load addr size) =
         goes_if (is_io addr) (if_empty t.stores (plan.Send addr)) (plan_look addr size (look_of t.stores addr size))
         (goes_empty t.stores (plan.Send addr) (data_pays addr)) (goes_look addr size (look_of t.stores addr size))

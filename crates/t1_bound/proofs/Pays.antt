@@ -1,7 +1,7 @@
 -- What a strand pays for what it does.
 use Rattle.std.proofs.Common.{◌≡◌, ◌≤◌, ◌+◌, ◌-◌, ◌*◌, ◌<◌, ◌==◌, ℕ, Bool, true, false, List, [], ◌∷◌, ◌++◌, length, refl, arith, if◌then◌else◌}
 use Rattle.std.proofs.lemmas.Bool.{eqb-false}
-use Rattle.t1_shape.specs.Shapes.Shape.{T1}
+use Rattle.t1_shape.specs.Shapes.{Shape}
 use Rattle.t1_decode.specs.Words.{insn_of}
 use Rattle.t1_state.specs.declared.strand.Strand.{Strand}
 use Rattle.t1_state.specs.declared.strand.Entered.TheVariants as entry
@@ -121,10 +121,10 @@ module _ (w : Weights) (paid : ℕ) (t : ThreadState) where
       let gives = times_next w.fetch t.strand.units in
       over_pays (after_of t.strand (insn_of (word_of t.phase)) 0) ending.Halted (rw one (omega (arith, gives))) can
 
-  pub store_pays : (addr size value : ℕ) → t.strand.units < t.budget → CanPay w (paid + w.store) t.phase → Pays w paid t (stored t addr size value)
+  pub store_pays : (chip : Shape) (addr size value : ℕ) → t.strand.units < t.budget → CanPay w (paid + w.store) t.phase → Pays w paid t (stored chip t addr size value)
   unfolding stored unit_done
-  store_pays addr size value live can =
-      let e : Entry = record { item = length t.items; addr = addr; size = size; value = value; sent = false; dest = dest_of T1 addr } in
+  store_pays chip addr size value live can =
+      let e : Entry = record { item = length t.items; addr = addr; size = size; value = value; sent = false; dest = dest_of chip addr } in
       ends_pays w.store (after_of t.strand (insn_of (word_of t.phase)) 0) (t.stores ++ e ∷ []) (t.items ++ store_item addr size value ∷ []) live
       (after_units t.strand (insn_of (word_of t.phase)) 0) (push_weight w t.stores e) can
 

@@ -2,7 +2,6 @@
 use Rattle.std.proofs.Common.{◌≡◌, ◌≤◌, ◌+◌, ◌*◌, ℕ, Bool, true, false, nat_lt, List, [], ◌∷◌, ◌++◌, length, set, get_or, Option, Some, None, refl, subst, arith}
 use Rattle.std.specs.List.{slice_get, All}
 use Rattle.std.proofs.lemmas.List.Elements.{All-set}
-use Rattle.t1_shape.specs.Shapes.Shape.{T1}
 use Rattle.t1_packet.specs.declared.packet.Packet.{Packet}
 use Rattle.t1_packet.specs.declared.served.Served.{Served}
 use Rattle.t1_packet.specs.Data.{RequestData}
@@ -110,7 +109,7 @@ module _ (w : Weights) (f : Falls w) (m n : MachineState) (live : All IsLiveCore
   serve_ring_pays : (d c : ℕ) (rs : List RequestData) → ring_of m.requests c d ≡ rs → serve_ring m d c rs ≡ Some n → StepPays w m n
   serve_ring_pays d c [] h s = no_step n (StepPays w m n) s
   serve_ring_pays d c (r ∷ rest) h s =
-      let access : Served = serves T1 d (bank_of m.banks d) r in
+      let access : Served = serves m.chip d (bank_of m.banks d) r in
       let k = times_less w.request (lengths (set m.requests (ring_place c d) rest)) (lengths m.requests) (pop_length m.requests (ring_place c d) r rest h) in
       let j = times_more w.served (lengths (set m.served d (get_or m.served d [] ++ access ∷ []))) (lengths m.served) (push_length m.served d access) in
       is_step w m (serving m d c r rest) n s

@@ -95,8 +95,8 @@ cores_begin w config entry core (suc n) some =
 rings_start : (w : Weights) (s : Setup) → rings_weight w (machine_start s) ≡ 0
 unfolding machine_start
 rings_start w s =
-    let a = ap (λ (n : ℕ). w.request * n) (empty_lengths RequestData (5 * s.config.cores)) in
-    let b = ap (λ (n : ℕ). w.served * n) (empty_lengths Served 5) in
+    let a = ap (λ (n : ℕ). w.request * n) (empty_lengths RequestData (9 * s.config.cores)) in
+    let b = ap (λ (n : ℕ). w.served * n) (empty_lengths Served 9) in
     let c = ap (λ (n : ℕ). w.packet * n) (empty_lengths Packet s.config.cores) in
     omega (arith, a, b, c)
 

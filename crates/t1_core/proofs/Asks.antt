@@ -1,6 +1,5 @@
 -- What needs a ring does not move by itself.
 use Rattle.std.proofs.Common.{◌≡◌, ℕ, Bool, true, false, Option, Some, None, refl, sym, subst, if◌then◌else◌}
-use Rattle.t1_shape.specs.Shapes.Shape.{T1}
 use Rattle.t1_packet.specs.declared.op.Op.{Op}
 use Rattle.t1_packet.specs.Ops.{op_dest}
 use Rattle.t1_l1.specs.Cache.{CacheState, read_of}
@@ -22,7 +21,7 @@ held_if false y z p q = q
 
 asked_held : (x : Asker) (t : ThreadState) (o : Op) (p : Phase) → IsHeld (asked x t o p).did
 unfolding asked
-asked_held x t o p = held_if (has_room x.room (op_dest T1 o)) _ _ tt tt
+asked_held x t o p = held_if (has_room x.room (op_dest x.chip o)) _ _ tt tt
 
 fetch_held : (x : Asker) (icache : CacheState) (t : ThreadState) → IsHeld (asked_fetch x icache t).did
 unfolding asked_fetch

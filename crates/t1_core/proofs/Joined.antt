@@ -2,7 +2,6 @@
 use Rattle.std.proofs.Common.{◌≡◌, ◌+◌, ◌*◌, ◌<◌, ◌≤◌, ◌==◌, ℕ, zero, suc, true, false, List, [], ◌∷◌, Option, Some, None, refl, ap, sym, ◌∙◌, subst, arith, slice_index}
 use Rattle.std.specs.List.{slice_get}
 use Rattle.std.proofs.lemmas.Bool.{ne_eqb}
-use Rattle.t1_shape.specs.Shapes.Shape.{T1}
 use Rattle.t1_packet.specs.declared.cache.Cache.TheVariants.{Dcache, Icache}
 use Rattle.t1_packet.specs.Caches.{layout, width}
 use Rattle.t1_state.specs.declared.strand.Strand.{Strand}
@@ -60,8 +59,8 @@ start_replays config core entry some = record {
       let is : t ≡ first = thread_from config entry (core * config.strands) config.strands i t e in
       subst (λ (u : ThreadState). Replays config.ram (starts_of config core entry i) u) (sym is)
       (starts_between config.ram config.budget config entry (core * config.strands + i) some);
-  dcache = empty_bytes (layout T1 Dcache) (width Dcache);
-  icache = empty_bytes (layout T1 Icache) (width Icache);
+  dcache = empty_bytes (layout config.chip Dcache) (width Dcache);
+  icache = empty_bytes (layout config.chip Icache) (width Icache);
 }
 
 no_item : (i : ℕ) (x : Item) → slice_get [] i ≡ Some x → ⊥

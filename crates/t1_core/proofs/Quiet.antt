@@ -2,7 +2,7 @@
 use Rattle.std.proofs.Common.{◌≡◌, ◌<◌, ◌/◌, ◌%◌, arith, length, get_or, ℕ, zero, suc, Bool, true, false, List, [], ◌∷◌, set, Option, Some, None, refl, ap, sym, ◌∙◌, subst, if◌then◌else◌}
 use Rattle.std.specs.Prelude.{IsSome}
 use Rattle.std.specs.List.{slice_get}
-use Rattle.t1_shape.specs.Shapes.Shape.{T1}
+use Rattle.t1_packet.proofs.Caches.{dest_below}
 use Rattle.t1_space.specs.Places.{is_io}
 use Rattle.t1_state.specs.Interrupts.{due_of}
 use Rattle.t1_packet.specs.declared.op.Op.{Op}
@@ -33,20 +33,13 @@ pub record Tells (room : ℕ) (t : ThreadState) (a : ThreadActed) : Type 0 where
   pub ring : HasRing room a.did
   pub still : WaitsStill t a.thread a.did
 
-small_dest : (b : Bool) (n : ℕ) → (if b then 4 else n % 4) < 5
-small_dest true n = omega arith
-small_dest false n = omega arith
-
-pub dest_below : (o : Op) → op_dest T1 o < 5
-dest_below o = small_dest (is_io (op_addr o)) (op_addr o / 64)
-
 tells_if : (b : Bool) (room : ℕ) (t : ThreadState) (y z : ThreadActed) → (b ≡ true → Tells room t y) → Tells room t z → Tells room t (if b then y else z)
 tells_if true room t y z p q = p refl
 tells_if false room t y z p q = q
 
 asked_tells : (x : Asker) (t : ThreadState) (o : Op) (p : Phase) → Tells x.room t (asked x t o p)
 unfolding asked
-asked_tells x t o p = tells_if (has_room x.room (op_dest T1 o)) x.room t _ _ (λ e. record { ring = (e, dest_below o); still = tt }) (record { ring = tt; still = refl })
+asked_tells x t o p = tells_if (has_room x.room (op_dest x.chip o)) x.room t _ _ (λ e. record { ring = (e, dest_below x.chip (op_addr o)); still = tt }) (record { ring = tt; still = refl })
 
 fetch_tells : (x : Asker) (icache : CacheState) (t : ThreadState) (h : Option ℕ) → Tells x.room t (exec_fetch x icache t h)
 unfolding asked_fetch
@@ -153,8 +146,8 @@ drain_if false x t y z p q = q
 next_tells : (x : Asker) (t : ThreadState) (o : Option Entry) → next_to_send_of t.stores ≡ o → TellsDrain x t (drain_next x t o)
 next_tells x t None is = record { ring = tt; still = refl; sends = tt }
 next_tells x t (Some e) is =
-    drain_if (has_room x.room (op_dest T1 (store_op e))) x t _ _
-    (λ h. record { ring = (h, dest_below (store_op e)); still = tt; sends = (subst IsSome (sym is) refl, refl) })
+    drain_if (has_room x.room (op_dest x.chip (store_op e))) x t _ _
+    (λ h. record { ring = (h, dest_below x.chip (op_addr (store_op e))); still = tt; sends = (subst IsSome (sym is) refl, refl) })
     (record { ring = tt; still = refl; sends = tt })
 
 stores_tell : (x : Asker) (t : ThreadState) (es : List Entry) → t.stores ≡ es → TellsDrain x t (drain_stores x t es)

@@ -3,7 +3,6 @@ use Rattle.std.proofs.Common.{◌≡◌, ◌≢◌, ◌⊎◌, ◌+◌, ◌-◌,
 use Rattle.std.specs.List.{slice_get}
 use Rattle.std.proofs.lemmas.Nat.{mod_below, pow_pos}
 use Rattle.std.proofs.lemmas.Bool.{cases_Bool, lt-ltb}
-use Rattle.t1_shape.specs.Shapes.Shape.{T1}
 use Rattle.t1_space.specs.Places.{is_io}
 use Rattle.t1_decode.specs.Words.{insn_of}
 use Rattle.t1_state.specs.declared.strand.Strand.{Strand}
@@ -97,7 +96,7 @@ module _ (y : Asker) (icache dcache : CacheState) (ib : AreByteLines icache.slot
       → Replays y.ram from (asked y (at_phase p) o q).thread
   unfolding asked
   asked_goes p q o g f =
-      elim (cases_Bool (has_room y.room (op_dest T1 o))) [
+      elim (cases_Bool (has_room y.room (op_dest y.chip o))) [
         | inl e ↦ rw e f
         | inr e ↦ rw e g
       ]
@@ -196,7 +195,7 @@ module _ (y : Asker) (icache dcache : CacheState) (ib : AreByteLines icache.slot
       let acts = ap (λ (n : Need). met s word (bare_items xs) [] n) e in
       empty_goes word es plan.Flush h (note_goes word flush_item h acts refl)
   need_goes word (need.Store addr size v) e h =
-      let t : ThreadState = stored (at_phase (phase.Have word)) addr size v in
+      let t : ThreadState = stored y.chip (at_phase (phase.Have word)) addr size v in
       let acts = ap (λ (n : Need). met s word (bare_items xs) [] n) e in
       let g : Replays y.ram from t = unit_follows (bounds y.ram budget) from s xs (store_item addr size v ∷ []) word 0 [] h acts refl in
       elim (cases_Bool (nat_lt (length es) 8)) [
@@ -244,7 +243,7 @@ exec_replays starts c i room r = exec_at_replays starts c i room (slice_get c.th
 drain_next_replays : (y : Asker) (from : Strand) (t : ThreadState) (o : Option Entry) → Replays y.ram from t → Replays y.ram from (drain_next y t o).thread
 drain_next_replays y from t None f = f
 drain_next_replays y from t (Some e) f =
-    elim (cases_Bool (has_room y.room (op_dest T1 (store_op e)))) [
+    elim (cases_Bool (has_room y.room (op_dest y.chip (store_op e)))) [
       | inl r ↦ rw r f
       | inr r ↦ rw r f
     ]

@@ -2,7 +2,6 @@
 use Rattle.std.proofs.Common.{◌≡◌, ◌≢◌, ◌⊎◌, ◌≤◌, ◌<◌, ℕ, ◌+◌, ◌-◌, ◌^◌, ◌==◌, ◌&&◌, ◌||◌, Bool, true, false, List, [], ◌∷◌, ◌++◌, Option, Some, None, refl, ap, sym, ◌∙◌, subst, length, set, zero, suc, inl, inr, nat_lt, arith, append-nil, if◌then◌else◌}
 use Rattle.std.specs.List.{slice_get}
 use Rattle.std.proofs.lemmas.Bool.{cases_Bool, ltb-false}
-use Rattle.t1_shape.specs.Shapes.Shape.{T1}
 use Rattle.t1_state.specs.Interrupts.{due_of}
 use Rattle.t1_joint.specs.Replay.{fetch_trap, is_fetchable}
 use Rattle.t1_packet.specs.declared.cache.Cache.{Cache}
@@ -110,7 +109,7 @@ commit_timed items clock n s x how t =
 module _ (y : Asker) (icache dcache : CacheState) (l : ThreadState) (t : IsTimed l.items y.time) where
   asked_timed : (o : Op) (q : Phase) → IsTimed (asked y l o q).thread.items y.time
   unfolding asked
-  asked_timed o q = elim (cases_Bool (has_room y.room (op_dest T1 o))) [ inl e ↦ rw e t | inr e ↦ rw e t ]
+  asked_timed o q = elim (cases_Bool (has_room y.room (op_dest y.chip o))) [ inl e ↦ rw e t | inr e ↦ rw e t ]
 
   fetch_timed : (word : Option ℕ) → IsTimed (exec_fetch y icache l word).thread.items y.time
   unfolding word_came asked_fetch
@@ -179,7 +178,7 @@ exec_timed c i room a = exec_at_timed c i room (slice_get c.threads i) a refl
 
 next_timed : (y : Asker) (t : ThreadState) (o : Option Entry) → (drain_next y t o).thread.items ≡ t.items
 next_timed y t None = refl
-next_timed y t (Some e) = elim (cases_Bool (has_room y.room (op_dest T1 (store_op e)))) [ inl r ↦ rw r refl | inr r ↦ rw r refl ]
+next_timed y t (Some e) = elim (cases_Bool (has_room y.room (op_dest y.chip (store_op e)))) [ inl r ↦ rw r refl | inr r ↦ rw r refl ]
 
 stores_timed : (y : Asker) (t : ThreadState) (es : List Entry) → (drain_stores y t es).thread.items ≡ t.items
 stores_timed y t [] = refl

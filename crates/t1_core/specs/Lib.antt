@@ -5,6 +5,7 @@ pub mod Takes
 pub mod Turns
 pub mod Room
 pub mod Start
+pub mod Views
 pub mod Told
 pub mod Quick
 pub mod Next

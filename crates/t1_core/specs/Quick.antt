@@ -14,7 +14,7 @@ use Rattle.t1_core.specs.Turns.{Turned}
 
 -- the same asker, where other rings have room
 abbrev pub in_room : Asker → ℕ → Asker
-in_room x room = record { number = x.number; strand = x.strand; room = room; time = x.time; ram = x.ram }
+in_room x room = record { chip = x.chip; number = x.number; strand = x.strand; room = room; time = x.time; ram = x.ram }
 
 abbrev pub IsWait : Did → Type 0
 IsWait did.Moved = ⊥

@@ -1,6 +1,7 @@
 -- The room that a strand's items have, and what a plan may count on.
 use Rattle.std.specs.Prelude.{ℕ, ◌≡◌, ◌+◌, ◌-◌, ◌*◌, ◌%◌, ◌^◌, ◌<◌, ◌≤◌, min, List, [], length}
 use Rattle.t1_num.specs.Memory.{IsSize}
+use Rattle.t1_shape.specs.Numbers.{most_strands}
 use Rattle.t1_exec.specs.Needs.{IsRam}
 use Rattle.t1_event.specs.declared.report.Config.{Config}
 use Rattle.t1_event.specs.declared.trace.Trace.{Trace}
@@ -49,7 +50,7 @@ pub record IsInsnOf (insn : Insn) (word : ℕ) : Type 0 where
 -- a configuration of which a core can be
 pub record IsCoreConfig (config : Config) : Type 0 where
   pub some_strands : 1 ≤ config.strands
-  pub few_strands : config.strands ≤ 4
+  pub few_strands : config.strands ≤ most_strands config.chip
   pub few_cores : config.cores ≤ 8
   pub ram_is : IsRam config.ram
   pub some_budget : 1 ≤ config.budget
@@ -58,7 +59,7 @@ pub record IsCoreConfig (config : Config) : Type 0 where
 -- what the parts of a core keep of one another: `made` traces are made so far, with room for more
 pub record AreParts (number : ℕ) (threads : List ThreadState) (ram : ℕ) (turns : List ℕ) (made : List Trace) (capacity : ℕ) : Type 0 where
   pub core : number < 8
-  pub few : length threads ≤ 4
+  pub few : length threads ≤ 8
   pub ram_is : IsRam ram
   pub queue : length turns ≡ length threads
   pub none_made : made ≡ []

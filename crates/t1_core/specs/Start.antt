@@ -1,6 +1,5 @@
 -- The start of a core.
 use Rattle.std.specs.Prelude.{ℕ, zero, suc, ◌+◌, ◌*◌, List, [], ◌∷◌}
-use Rattle.t1_shape.specs.Shapes.Shape.{T1}
 use Rattle.t1_state.specs.declared.strand.Strand.{Strand}
 use Rattle.t1_packet.specs.declared.cache.Cache.TheVariants.{Dcache, Icache}
 use Rattle.t1_packet.specs.Caches.{layout, width}
@@ -23,10 +22,11 @@ threads_from config entry number (suc n) = first_thread (start_in config entry n
 
 unfoldable pub new_core : Config → ℕ → ℕ → CoreState
 new_core config core entry = record {
+  chip = config.chip;
   number = core;
   threads = threads_from config entry (core * config.strands) config.strands;
-  dcache = empty_cache (layout T1 Dcache) (width Dcache);
-  icache = empty_cache (layout T1 Icache) (width Icache);
+  dcache = empty_cache (layout config.chip Dcache) (width Dcache);
+  icache = empty_cache (layout config.chip Icache) (width Icache);
   time = 0;
   ram = config.ram;
   turns = counted 0 config.strands;

@@ -1,7 +1,6 @@
 -- What a strand of a core does: exec and drain.
 use Rattle.std.specs.Prelude.{ℕ, ◌+◌, ◌/◌, ◌%◌, ◌^◌, ◌==◌, Bool, true, false, bit_and, nat_lt, if◌then◌else◌, List, [], ◌∷◌, length, set, slice_get, Option, Some, None}
 use Rattle.t1_shape.specs.Shapes.{Shape}
-use Rattle.t1_shape.specs.Shapes.Shape.{T1}
 use Rattle.t1_space.specs.Places.{is_io}
 use Rattle.t1_decode.specs.Words.{insn_of}
 use Rattle.t1_state.specs.Interrupts.{due_of}
@@ -36,6 +35,7 @@ use Rattle.t1_core.specs.Stores.{store_op}
 use Rattle.t1_core.specs.Threads.{ThreadState, word_of, thread_need, unit_done, halted, trapped, word_came, load_came, stored, op_for, in_phase, store_sent}
 
 pub record CoreState : Type 0 where
+  pub chip : Shape
   pub number : ℕ
   pub threads : List ThreadState
   pub dcache : CacheState
@@ -49,7 +49,7 @@ with_thread c i t = record c { threads = set c.threads i t }
 
 -- who asks, with which rings that have room, and when
 abbrev pub asker : CoreState → ℕ → ℕ → Asker
-asker c i room = record { number = c.number; strand = i; room = room; time = c.time; ram = c.ram }
+asker c i room = record { chip = c.chip; number = c.number; strand = i; room = room; time = c.time; ram = c.ram }
 
 -- a strand that does something, and what it did
 pub record ThreadActed : Type 0 where
@@ -100,7 +100,7 @@ request_of x item o = record { core = x.number; strand = x.strand; item = item; 
 -- the strand's request goes out, where its ring has room
 unfoldable pub asked : Asker → ThreadState → Op → Phase → ThreadActed
 asked x t o p =
-    let d = op_dest T1 o in
+    let d = op_dest x.chip o in
     if has_room x.room d then record { thread = in_phase t p; did = did.Sent d (request_of x (length t.items) o) }
     else waits t (wait.NoRoom d)
 
@@ -139,7 +139,7 @@ exec_plan x dcache t plan.Act = moved (unit_done t 0 [])
 exec_plan x dcache t plan.Halt = moved (halted t)
 exec_plan x dcache t (plan.Membar mask) = moved (unit_done t 0 (membar_item mask ∷ []))
 exec_plan x dcache t plan.Flush = moved (unit_done t 0 (flush_item ∷ []))
-exec_plan x dcache t (plan.Store addr size value) = moved (stored t addr size value)
+exec_plan x dcache t (plan.Store addr size value) = moved (stored x.chip t addr size value)
 exec_plan x dcache t (plan.Forward addr size value) = moved (load_came t addr size value (Forward x.time))
 exec_plan x dcache t (plan.Look addr size) = exec_look x dcache t addr size (read_of dcache addr size)
 exec_plan x dcache t (plan.Send addr) = asked_data x dcache t addr
@@ -192,7 +192,7 @@ stays t d = record { thread = t; did = d }
 abbrev pub drain_next : Asker → ThreadState → Option Entry → ThreadDrained
 drain_next x t None = stays t drained.Out
 drain_next x t (Some e) =
-    let d = op_dest T1 (store_op e) in
+    let d = op_dest x.chip (store_op e) in
     if has_room x.room d then
     record { thread = store_sent t x.time; did = drained.Sent d (request_of x e.item (store_op e)) }
     else stays t (drained.NoRoom d)

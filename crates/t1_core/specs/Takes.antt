@@ -66,6 +66,13 @@ is_way_for dcache icache (op.Store addr size value) way = is_none way
 is_way_for dcache icache (op.Swap addr size new) way = is_none way
 is_way_for dcache icache (op.Cas addr size expect new) way = is_none way
 
+abbrev pub is_fetch : Op → Bool
+is_fetch (op.Fetch addr way) = true
+is_fetch (op.Load addr size way) = false
+is_fetch (op.Store addr size value) = false
+is_fetch (op.Swap addr size new) = false
+is_fetch (op.Cas addr size expect new) = false
+
 -- the reply answers a request for this item with this op
 abbrev pub accepts : CacheState → CacheState → ReplyData → ℕ → Op → Bool
 accepts dcache icache r item o =

@@ -1,7 +1,7 @@
 -- One strand of a core: its state, where it stands in its unit, its stores and its trace; and each
 -- thing that happens to it.
 use Rattle.std.specs.Prelude.{ℕ, ◌==◌, false, drop, if◌then◌else◌, List, [], ◌∷◌, ◌++◌, length, slice_get, set, Option, Some, None}
-use Rattle.t1_shape.specs.Shapes.Shape.{T1}
+use Rattle.t1_shape.specs.Shapes.{Shape}
 use Rattle.t1_decode.specs.Words.{insn_of}
 use Rattle.t1_state.specs.declared.strand.Strand.{Strand}
 use Rattle.t1_state.specs.declared.strand.Entered.{Entered}
@@ -98,9 +98,9 @@ unfoldable pub value_came : ℕ → ThreadState → ℕ → How → ThreadState
 value_came ram t value how = unit_done t value (placed (read_item (thread_need ram t) value) how ∷ [])
 
 -- a store enters the buffer
-unfoldable pub stored : ThreadState → ℕ → ℕ → ℕ → ThreadState
-stored t addr size value =
-    let e : Entry = record { item = length t.items; addr = addr; size = size; value = value; sent = false; dest = dest_of T1 addr } in
+unfoldable pub stored : Shape → ThreadState → ℕ → ℕ → ℕ → ThreadState
+stored chip t addr size value =
+    let e : Entry = record { item = length t.items; addr = addr; size = size; value = value; sent = false; dest = dest_of chip addr } in
     record (unit_done t 0 (store_item addr size value ∷ [])) { stores = t.stores ++ e ∷ [] }
 
 -- what a load or an atomic asks of its destination
@@ -108,12 +108,12 @@ abbrev pub op_for : Need → ℕ → Op
 op_for (need.Load addr size) way = op.Load addr size way
 op_for (need.Atomic addr size (Swap new)) way = op.Swap addr size new
 op_for (need.Atomic addr size (Cas expect new)) way = op.Cas addr size expect new
-op_for need.Plain way = op.Fetch 0 0
-op_for need.Halt way = op.Fetch 0 0
-op_for (need.Trap number) way = op.Fetch 0 0
-op_for (need.Store addr size value) way = op.Fetch 0 0
-op_for (need.Membar mask) way = op.Fetch 0 0
-op_for need.Flush way = op.Fetch 0 0
+op_for need.Plain way = op.Cas 0 0 0 0
+op_for need.Halt way = op.Cas 0 0 0 0
+op_for (need.Trap number) way = op.Cas 0 0 0 0
+op_for (need.Store addr size value) way = op.Cas 0 0 0 0
+op_for (need.Membar mask) way = op.Cas 0 0 0 0
+op_for need.Flush way = op.Cas 0 0 0 0
 
 abbrev pub placed_at : List Item → ℕ → How → Option Item → List Item
 placed_at items k how None = items

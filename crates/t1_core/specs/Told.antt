@@ -13,13 +13,13 @@ use Rattle.t1_core.specs.Turns.{next_place}
 abbrev pub HasRing : ℕ → Did → Type 0
 HasRing room did.Moved = Unit {0}
 HasRing room (did.Waits w) = Unit {0}
-HasRing room (did.Sent d r) = (has_room room d ≡ true) × (d < 5)
+HasRing room (did.Sent d r) = (has_room room d ≡ true) × (d < 9)
 
 abbrev pub HasDrainRing : ℕ → Drained → Type 0
 HasDrainRing room drained.Empty = Unit {0}
 HasDrainRing room drained.Out = Unit {0}
 HasDrainRing room (drained.NoRoom d) = Unit {0}
-HasDrainRing room (drained.Sent d r) = (has_room room d ≡ true) × (d < 5)
+HasDrainRing room (drained.Sent d r) = (has_room room d ≡ true) × (d < 9)
 
 -- what waits changes nothing
 abbrev pub WaitsStill : {A : Type 0} → A → A → Did → Type 0

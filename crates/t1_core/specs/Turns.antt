@@ -1,5 +1,5 @@
 -- Which strand of a core executes next.
-use Rattle.std.specs.Prelude.{ℕ, ◌+◌, ◌*◌, Bool, is_none, if◌then◌else◌, List, slice_index, Option, Some, None}
+use Rattle.std.specs.Prelude.{ℕ, zero, suc, ◌+◌, ◌*◌, Bool, is_none, if◌then◌else◌, List, slice_index, Option, Some, None}
 use Rattle.t1_select.specs.Queue.{first_ready, moved_last}
 use Rattle.t1_core.specs.declared.answers.Did.{Did}
 use Rattle.t1_core.specs.Steps.{CoreState, exec_of, wait_of}
@@ -11,9 +11,14 @@ is_ready c room i = is_none (wait_of c i room)
 abbrev pub ready_bit : CoreState → ℕ → ℕ → ℕ
 ready_bit c room i = if is_ready c room i then 1 else 0
 
--- a word with a bit for each of four strands that is ready
+-- a word with a bit for each of eight strands that is ready
+-- so many bits, from a strand on
+abbrev pub ready_bits : CoreState → ℕ → ℕ → ℕ → ℕ
+ready_bits c room i zero = 0
+ready_bits c room i (suc n) = ready_bit c room i + 2 * ready_bits c room (i + 1) n
+
 unfoldable pub ready_word : CoreState → ℕ → ℕ
-ready_word c room = ready_bit c room 0 + 2 * ready_bit c room 1 + 4 * ready_bit c room 2 + 8 * ready_bit c room 3
+ready_word c room = ready_bits c room 0 8
 
 -- the place of the first strand of the queue that is ready
 abbrev pub next_place : CoreState → ℕ → Option ℕ

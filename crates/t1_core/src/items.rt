@@ -1,9 +1,10 @@
 //! The items of a trace.
-ghost use Rattle.std.specs.Prelude.{◌≡◌, ◌<◌};
+ghost use Rattle.std.specs.Prelude.{ℕ, ◌≡◌, ◌<◌, false};
 ghost use Rattle.t1_event.specs.Items.{access_item, membar_item, flush_item};
 ghost use Rattle.t1_core.specs.Stores.{store_op};
 ghost use Rattle.t1_core.specs.Threads.{read_item, op_for, placed};
 ghost use Rattle.t1_core.specs.Next.{AsksForWay};
+ghost use Rattle.t1_core.specs.Takes.{is_fetch};
 
 use t1_event::{How, Item, ItemKind};
 use t1_exec::{AtomicOp, Need};
@@ -58,7 +59,8 @@ pub fn read_item(need: Need, value: u64, how: How) -> Item
 /// What a load or an atomic asks of its destination.
 pub fn op_for(need: Need, way: u8) -> Op
     ensures value { result ≡ op_for need way }
-    ensures way { way < 4 → AsksForWay result }
+    ensures way { (ways : ℕ) → way < 4 → AsksForWay ways result }
+    ensures data { is_fetch result ≡ false }
 {
     match need {
         Need::Load { addr, size } => Op::Load { addr, size, way },
@@ -77,7 +79,12 @@ pub fn op_for(need: Need, way: u8) -> Op
             expect,
             new,
         },
-        _ => Op::Fetch { addr: 0, way: 0 },
+        _ => Op::Cas {
+            addr: 0,
+            size: 0,
+            expect: 0,
+            new: 0,
+        },
     }
 }
 

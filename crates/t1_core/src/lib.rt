@@ -13,6 +13,7 @@
 
 pub mod answers;
 pub mod asker;
+mod insn_cache;
 mod items;
 pub mod laws;
 mod next;

@@ -10,6 +10,7 @@ ghost use Rattle.t1_core.specs.Next.{IsNext};
 
 use crate::answers::Wait;
 use crate::asker::Asker;
+use crate::insn_cache::InsnCache;
 use crate::items::op_for;
 use crate::phase::Phase;
 use crate::plan::{Next, Plan};
@@ -33,9 +34,9 @@ pub fn is_fetchable(ram: u64, pc: u64) -> bool
 
 /// What a strand would do that begins a unit.
 #[tactic(auto, unfolding(crate::specs::Steps::asked_fetch))]
-fn next_begin(asker: Asker, icache: &L1<4, 32>, thread: &Thread) -> Next
+fn next_begin(asker: Asker, icache: &InsnCache, thread: &Thread) -> Next
     requires { owed thread.now.phase ≡ 2 }
-    ensures { IsNext asker thread.now (exec_begin asker icache.now thread.now (due_of thread.now.strand) (is_fetchable asker.ram thread.now.strand.pc)) result }
+    ensures { IsNext icache.now.layout.ways asker thread.now (exec_begin asker icache.now thread.now (due_of thread.now.strand) (is_fetchable asker.ram thread.now.strand.pc)) result }
 {
     let addr = thread.pc();
     if thread.due().is_some() || !is_fetchable(asker.ram, addr) {
@@ -54,12 +55,19 @@ fn next_begin(asker: Asker, icache: &L1<4, 32>, thread: &Thread) -> Next
 
 /// What a strand would do that has such a plan.
 #[tactic(auto, unfolding(crate::specs::Steps::asked_data))]
-fn next_plan(asker: Asker, dcache: &L1<4, 16>, thread: &Thread, insn: &Insn, plan: Plan) -> Next
+fn next_plan(
+    asker: Asker,
+    icache: &InsnCache,
+    dcache: &L1<4, 16>,
+    thread: &Thread,
+    insn: &Insn,
+    plan: Plan,
+) -> Next
     requires asker { IsAsker asker }
     requires phase { owed thread.now.phase ≡ 1 }
     requires insn { IsInsnOf insn.now (word_of thread.now.phase) }
     requires plan { IsPlan plan (length thread.now.stores) }
-    ensures { IsNext asker thread.now (exec_plan asker dcache.now thread.now plan) result }
+    ensures { IsNext icache.now.layout.ways asker thread.now (exec_plan asker dcache.now thread.now plan) result }
 {
     let addr = match plan {
         Plan::Waits(wait) => return Next::Waits(wait),
@@ -72,6 +80,7 @@ fn next_plan(asker: Asker, dcache: &L1<4, 16>, thread: &Thread, insn: &Insn, pla
         Plan::Send { addr } => addr,
         _ => return Next::Moves,
     };
+    let _ways = icache.ways();
     let way = dcache.victim(addr);
     let seen = asker.time;
     let word = thread.word();
@@ -83,9 +92,9 @@ fn next_plan(asker: Asker, dcache: &L1<4, 16>, thread: &Thread, insn: &Insn, pla
 
 /// What a strand would do.
 #[tactic(auto, unfolding(crate::specs::Steps::thread_exec))]
-pub fn next(asker: Asker, icache: &L1<4, 32>, dcache: &L1<4, 16>, thread: &Thread) -> Next
+pub fn next(asker: Asker, icache: &InsnCache, dcache: &L1<4, 16>, thread: &Thread) -> Next
     requires { IsAsker asker }
-    ensures { IsNext asker thread.now (thread_exec asker icache.now dcache.now thread.now) result }
+    ensures { IsNext icache.now.layout.ways asker thread.now (thread_exec asker icache.now dcache.now thread.now) result }
 {
     match thread.phase() {
         Phase::Fetch => next_begin(asker, icache, thread),
@@ -93,7 +102,7 @@ pub fn next(asker: Asker, icache: &L1<4, 32>, dcache: &L1<4, 16>, thread: &Threa
             let insn = decode(word);
             let need = thread.need(&insn, asker.ram);
             let plan = thread.plan(need, asker.ram);
-            next_plan(asker, dcache, thread, &insn, plan)
+            next_plan(asker, icache, dcache, thread, &insn, plan)
         }
         Phase::OutFetch { .. } => Next::Waits(Wait::Reply),
         Phase::OutData { .. } => Next::Waits(Wait::Reply),
@@ -103,7 +112,7 @@ pub fn next(asker: Asker, icache: &L1<4, 32>, dcache: &L1<4, 16>, thread: &Threa
 
 /// Why a strand would wait: a request waits where its ring has no room.
 #[tactic(auto, unfolding(crate::specs::Steps::asked))]
-pub fn wait(asker: Asker, icache: &L1<4, 32>, dcache: &L1<4, 16>, thread: &Thread) -> Option<Wait>
+pub fn wait(asker: Asker, icache: &InsnCache, dcache: &L1<4, 16>, thread: &Thread) -> Option<Wait>
     requires { IsAsker asker }
     ensures { result ≡ waited (thread_exec asker icache.now dcache.now thread.now).did }
 {
@@ -111,7 +120,7 @@ pub fn wait(asker: Asker, icache: &L1<4, 32>, dcache: &L1<4, 16>, thread: &Threa
         Next::Moves => None,
         Next::Waits(wait) => Some(wait),
         Next::Asks { op, .. } => {
-            let dest = op_dest(op);
+            let dest = op_dest(asker.chip, op);
             if has_room(asker.room, dest) {
                 None
             } else {

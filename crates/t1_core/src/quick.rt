@@ -9,6 +9,7 @@ ghost use Rattle.t1_core.specs.Askers.{IsAsker};
 ghost use Rattle.t1_core.specs.Quick.{in_room, IsQuick, QuickStill};
 
 use crate::asker::Asker;
+use crate::insn_cache::InsnCache;
 use crate::items::{flush_item, membar_item};
 use crate::next::{FETCH_TRAP, is_fetchable};
 use crate::phase::Phase;
@@ -32,7 +33,7 @@ pub enum Quick {
 }
 
 /// A unit begins, where its word is in the cache.
-fn quick_begin(asker: Asker, icache: &L1<4, 32>, thread: &mut Thread) -> Quick
+fn quick_begin(asker: Asker, icache: &InsnCache, thread: &mut Thread) -> Quick
     requires asker { IsAsker asker }
     requires phase { owed thread.old.phase ≡ 2 }
     ensures step { (room : ℕ) → let a = exec_begin (in_room asker room) icache.now thread.old (due_of thread.old.strand) (is_fetchable asker.ram thread.old.strand.pc) in IsQuick thread.new a.thread a.did result }
@@ -87,7 +88,7 @@ fn quick_plan(
         Plan::Halt => thread.halt(insn, ram),
         Plan::Membar(mask) => thread.note(insn, 0, membar_item(mask), ram),
         Plan::Flush => thread.note(insn, 0, flush_item(), ram),
-        Plan::Store { addr, size, value } => thread.store(insn, addr, size, value, ram),
+        Plan::Store { addr, size, value } => thread.store(asker.chip, insn, addr, size, value, ram),
         Plan::Forward { addr, size, value } => {
             let how = How::Forward { time: asker.time };
             thread.load_came(insn, addr, size, value, how, ram);
@@ -100,7 +101,7 @@ fn quick_plan(
 #[tactic(auto, unfolding(crate::specs::Steps::thread_exec))]
 pub fn quick_exec(
     asker: Asker,
-    icache: &L1<4, 32>,
+    icache: &InsnCache,
     dcache: &L1<4, 16>,
     thread: &mut Thread,
 ) -> Quick

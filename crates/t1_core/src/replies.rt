@@ -5,9 +5,10 @@ ghost use Rattle.t1_packet.specs.Ops.{op_addr, is_store};
 ghost use Rattle.t1_packet.specs.declared.op.Op.TheVariants as op;
 ghost use Rattle.t1_l1.specs.Cache.{CacheState};
 ghost use Rattle.t1_core.specs.Threads.{thread_need, word_came, value_came, op_for};
-ghost use Rattle.t1_core.specs.Takes.{same_op, fits, is_way_of, is_way_for, accepts, fill_with, Answered, answered_read, answered_store, thread_answer};
+ghost use Rattle.t1_core.specs.Takes.{emptied_in, same_op, fits, is_way_of, is_way_for, is_fetch, accepts, fill_with, Answered, answered_read, answered_store, thread_answer};
 ghost use Rattle.t1_core.specs.Room.{owed};
 
+use crate::insn_cache::InsnCache;
 use crate::items::{op_for, store_op};
 use crate::phase::Phase;
 use crate::rings::{is_store, op_addr, op_size};
@@ -94,15 +95,14 @@ fn is_way(ways: u8, way: Option<u8>) -> bool
 }
 
 /// Whether a reply to this op may have this way.
-fn is_way_for(dcache: &L1<4, 16>, icache: &L1<4, 32>, op: Op, way: Option<u8>) -> bool
+fn is_way_for(dcache: &L1<4, 16>, icache: &InsnCache, op: Op, way: Option<u8>) -> bool
     ensures value { result ≡ is_way_for dcache.now icache.now op way }
-    ensures fetch { (a w : ℕ) → op ≡ Op.Fetch a w → result ≡ true → is_way_of 4 way ≡ true }
-    ensures read { is_store op ≡ false → result ≡ true → is_way_of 4 way ≡ true }
+    ensures fetch { is_fetch op ≡ true → result ≡ true → is_way_of icache.now.layout.ways way ≡ true }
+    ensures data { is_fetch op ≡ false → result ≡ true → is_way_of 4 way ≡ true }
 {
     let _data = dcache.sets();
-    let _words = icache.sets();
     match op {
-        Op::Fetch { .. } => is_way(4, way),
+        Op::Fetch { .. } => is_way(icache.ways(), way),
         Op::Load { addr, .. } => {
             if addr >> 39 == 1 {
                 way.is_none()
@@ -115,9 +115,10 @@ fn is_way_for(dcache: &L1<4, 16>, icache: &L1<4, 32>, op: Op, way: Option<u8>) -
 }
 
 /// Whether a reply answers a request for this item with this op.
-fn accepts(dcache: &L1<4, 16>, icache: &L1<4, 32>, reply: &Reply, item: u32, op: Op) -> bool
+fn accepts(dcache: &L1<4, 16>, icache: &InsnCache, reply: &Reply, item: u32, op: Op) -> bool
     ensures value { result ≡ accepts dcache.now icache.now reply.now item op }
-    ensures read { is_store reply.now.op ≡ false → result ≡ true → is_way_of 4 reply.now.way ≡ true }
+    ensures fetch { is_fetch op ≡ true → result ≡ true → is_way_of icache.now.layout.ways reply.now.way ≡ true }
+    ensures data { is_fetch op ≡ false → result ≡ true → is_way_of 4 reply.now.way ≡ true }
     ensures word { (a w : ℕ) → op ≡ Op.Fetch a w → result ≡ true → reply.now.old < 2 ^ 32 }
 {
     same_op(op, reply.op)
@@ -127,8 +128,8 @@ fn accepts(dcache: &L1<4, 16>, icache: &L1<4, 32>, reply: &Reply, item: u32, op:
 }
 
 /// The line of a reply fills the instruction cache, where it has a way.
-fn fill_insn(icache: &mut L1<4, 32>, addr: u64, way: Option<u8>, line: &[u8; 32])
-    requires { is_way_of 4 way ≡ true }
+fn fill_insn(icache: &mut InsnCache, addr: u64, way: Option<u8>, line: &[u8; 32])
+    requires { is_way_of icache.old.layout.ways way ≡ true }
     ensures { icache.new ≡ fill_with icache.old addr way line.now }
 {
     if let Some(way) = way {
@@ -154,7 +155,7 @@ fn answer_fetch(
     reply: &Reply,
     thread: &mut Thread,
     dcache: &L1<4, 16>,
-    icache: &mut L1<4, 32>,
+    icache: &mut InsnCache,
     way: u8,
 )
     requires phase { owed thread.old.phase ≡ 2 }
@@ -182,7 +183,7 @@ fn answer_data(
     reply: &Reply,
     thread: &mut Thread,
     dcache: &mut L1<4, 16>,
-    icache: &L1<4, 32>,
+    icache: &InsnCache,
     way: u8,
 )
     requires ram { IsRam ram }
@@ -209,7 +210,7 @@ fn answer_read(
     reply: &Reply,
     thread: &mut Thread,
     dcache: &mut L1<4, 16>,
-    icache: &mut L1<4, 32>,
+    icache: &mut InsnCache,
 )
     requires ram { IsRam ram }
     requires read { is_store reply.now.op ≡ false }
@@ -230,7 +231,7 @@ fn answer_store(
     reply: &Reply,
     thread: &mut Thread,
     dcache: &mut L1<4, 16>,
-    icache: &L1<4, 32>,
+    icache: &InsnCache,
 )
     ensures { let before : Answered = record { thread = thread.old; dcache = dcache.old; icache = icache.now } in
         let after : Answered = record { thread = thread.new; dcache = dcache.new; icache = icache.now } in
@@ -254,7 +255,7 @@ pub fn answer(
     reply: &Reply,
     thread: &mut Thread,
     dcache: &mut L1<4, 16>,
-    icache: &mut L1<4, 32>,
+    icache: &mut InsnCache,
 )
     requires { IsRam ram }
     ensures { let before : Answered = record { thread = thread.old; dcache = dcache.old; icache = icache.old } in
@@ -265,5 +266,18 @@ pub fn answer(
         answer_store(index, reply, thread, dcache, icache);
     } else {
         answer_read(ram, index, reply, thread, dcache, icache);
+    }
+}
+
+/// Empties a way of a set, where the cache has it.
+pub fn empty_way<const WAYS: usize, const LINE: usize>(
+    cache: &mut L1<WAYS, LINE>,
+    set: u8,
+    way: u8,
+)
+    ensures { cache.new ≡ emptied_in cache.old set way }
+{
+    if (set as usize) < cache.sets() && (way as usize) < WAYS {
+        cache.invalidate(set, way);
     }
 }

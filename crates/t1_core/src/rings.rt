@@ -1,11 +1,12 @@
 //! Requests and the rings that they go to.
 ghost use Rattle.std.specs.Prelude.{◌≡◌, ◌<◌, true};
-ghost use Rattle.t1_shape.specs.Shapes.Shape.{T1};
 ghost use Rattle.t1_packet.specs.Ops.{op_addr, op_size, op_dest, is_store};
 ghost use Rattle.t1_core.specs.Steps.{has_room, request_of};
 
 use crate::asker::Asker;
-use t1_packet::{Op, Request, dest};
+use t1_event::dest_of;
+use t1_num::ChipKind;
+use t1_packet::{Op, Request};
 
 /// The address of an op.
 pub fn op_addr(op: Op) -> u64
@@ -43,16 +44,16 @@ pub fn is_store(op: Op) -> bool
 }
 
 /// The destination of an op.
-pub fn op_dest(op: Op) -> u8
-    ensures value { result ≡ op_dest T1 op }
-    ensures few { result < 5 }
+pub fn op_dest(chip: ChipKind, op: Op) -> u8
+    ensures value { result ≡ op_dest chip op }
+    ensures few { result < 9 }
 {
-    dest(op_addr(op))
+    dest_of(chip, op_addr(op))
 }
 
 /// Whether the ring to a destination has room.
 pub fn has_room(room: u16, dest: u8) -> bool
-    requires { dest < 5 }
+    requires { dest < 9 }
     ensures { result ≡ has_room room dest }
 {
     (room >> dest) % 2 == 1

@@ -6,7 +6,7 @@ ghost use Rattle.t1_event.specs.declared.report.Config.{Config as ConfigData};
 ghost use Rattle.t1_select.specs.Queue.{moved_last, first_ready};
 ghost use Rattle.t1_core.specs.Steps.{CoreState, asker, exec_of, wait_of, drain_of};
 ghost use Rattle.t1_core.specs.Takes.{emptied_in, killed_by, killed, answered, take_of};
-ghost use Rattle.t1_core.specs.Turns.{is_ready, ready_bit, ready_word, next_place, with_turns, turn_of};
+ghost use Rattle.t1_core.specs.Turns.{is_ready, ready_bit, ready_bits, ready_word, next_place, with_turns, turn_of};
 ghost use Rattle.t1_core.specs.Room.{IsCoreConfig};
 ghost use Rattle.t1_core.specs.Start.{threads_from, new_core};
 ghost use Rattle.t1_core.specs.Told.{HasRing, HasDrainRing, WaitsStill, DrainsStill, ActedAt};
@@ -17,15 +17,17 @@ ghost use Rattle.t1_core.specs.Quick.{IsQuick, QuickStill, TurnMovedTo, are_stor
 
 use crate::answers::{Did, Drained, Wait};
 use crate::asker::Asker;
+use crate::insn_cache::InsnCache;
 use crate::next::wait;
 use crate::quick::{Quick, quick_exec};
-use crate::replies::answer;
+use crate::replies::{answer, empty_way};
 use crate::steps::{drain, drain_answer, exec};
 use crate::thread::Thread;
 use std::alloc::{AllocError, Global};
 use std::marker::Model;
 use t1_event::{Config, Trace};
 use t1_l1::L1;
+use t1_num::ChipKind;
 use t1_packet::{Cache, Kill, Packet, Reply};
 use t1_select::Select;
 use t1_state::Strand;
@@ -35,10 +37,11 @@ use t1_state::Strand;
 /// In each word `room` bit d says that the request ring to destination d has room.
 #[derive(Drop)]
 pub struct Core {
+    chip: ChipKind,
     number: u8,
     threads: Vec<Thread>,
     dcache: L1<4, 16>,
-    icache: L1<4, 32>,
+    icache: InsnCache,
     time: u32,
     ram: u64,
     select: Select,
@@ -53,6 +56,7 @@ impl Model for Core {
     ghost Value = { CoreState };
 
     ghost view = { λ c. record {
+      chip = c.chip;
       number = c.number;
       threads = c.threads.items;
       dcache = c.dcache;
@@ -81,7 +85,7 @@ fn first_threads(
     entry: u64,
 ) -> Result<Vec<Thread>, AllocError>
     requires config { IsCoreConfig config.now }
-    requires number { number + config.now.strands ≤ 32 }
+    requires number { number + config.now.strands ≤ 64 }
     ensures threads { IfOk result (λ ts. ts.items ≡ threads_from config.now entry number config.now.strands) }
     ensures few { IfOk result (λ ts. length ts.items ≡ config.now.strands) }
 {
@@ -104,10 +108,11 @@ impl Core {
     {
         let threads = first_threads(alloc, config, core * config.strands, entry)?;
         Ok(Core {
+            chip: config.chip,
             number: core,
             threads,
             dcache: L1::new(alloc, 128)?,
-            icache: L1::new(alloc, 128)?,
+            icache: InsnCache::new(alloc, config.chip)?,
             time: 0,
             ram: config.ram,
             select: Select::new(config.strands),
@@ -128,6 +133,7 @@ impl Core {
         ensures ram { IsRam result.ram }
     {
         Asker {
+            chip: self.chip,
             number: self.number,
             strand,
             room,
@@ -143,7 +149,7 @@ impl Core {
         ensures did { result ≡ (exec_of self.old strand room).did }
         ensures ring { HasRing room result }
         ensures still { WaitsStill self.old self.new result }
-        ensures way { SendsForWay result }
+        ensures way { SendsForWay self.old.icache.layout.ways result }
     {
         self.exec_strand(strand, room)
     }
@@ -152,7 +158,7 @@ impl Core {
     fn exec_strand(&mut self, strand: u8, room: u16) -> Did
         ensures core { self.new ≡ (exec_of self.old strand room).core }
         ensures did { result ≡ (exec_of self.old strand room).did }
-        ensures way { SendsForWay result }
+        ensures way { SendsForWay self.old.icache.layout.ways result }
     {
         let asker = self.asker(strand, room);
         let Some(thread) = self.threads.get_mut(strand as usize) else {
@@ -307,7 +313,7 @@ impl Core {
     #[tactic(auto, using(crate::proofs::Quiet::exec_quiet, t1_select::proofs::Places::first_ready_is, t1_select::proofs::Places::first_ready_none))]
     fn act_first(&mut self, room: u16) -> Option<Acted>
         ensures some { IfSome result (λ a. ActedAt self.old room a.place a.did self.new) }
-        ensures way { IfSome result (λ a. SendsForWay a.did) }
+        ensures way { IfSome result (λ a. SendsForWay self.old.icache.layout.ways a.did) }
         ensures none { IfNone result ((next_place self.old room ≡ None) × (self.new ≡ self.old)) }
     {
         let count = self.select.len();
@@ -335,7 +341,7 @@ impl Core {
         ensures did { result ≡ (turn_of self.old room).did }
         ensures ring { IfSome result (λ d. HasRing room d) }
         ensures still { IfNone result (self.new ≡ self.old) }
-        ensures way { IfSome result (λ d. SendsForWay d) }
+        ensures way { IfSome result (λ d. SendsForWay self.old.icache.layout.ways d) }
     {
         let acted = self.act_first(room)?;
         self.move_last(acted.place);
@@ -352,15 +358,24 @@ impl Core {
         }
     }
 
+    /// Four of them, from a strand on.
+    fn ready_bits(&self, strand: u8, room: u16) -> u8
+        requires { strand < 8 }
+        ensures value { result ≡ ready_bits self.now room strand 4 }
+        ensures few { result < 16 }
+    {
+        self.ready_bit(strand, room)
+            + 2 * self.ready_bit(strand + 1, room)
+            + 4 * self.ready_bit(strand + 2, room)
+            + 8 * self.ready_bit(strand + 3, room)
+    }
+
     /// The strands that would not wait, a bit for each.
     #[tactic(auto, unfolding(crate::specs::Turns::ready_word))]
     pub fn ready(&self, room: u16) -> u8
         ensures { result ≡ ready_word self.now room }
     {
-        self.ready_bit(0, room)
-            + 2 * self.ready_bit(1, room)
-            + 4 * self.ready_bit(2, room)
-            + 8 * self.ready_bit(3, room)
+        self.ready_bits(0, room) + 16 * self.ready_bits(4, room)
     }
 
     fn kill(&mut self, kill: Kill)
@@ -369,7 +384,7 @@ impl Core {
         if kill.core == self.number {
             match kill.cache {
                 Cache::Dcache => empty_way(&mut self.dcache, kill.set, kill.way),
-                Cache::Icache => empty_way(&mut self.icache, kill.set, kill.way),
+                Cache::Icache => self.icache.empty(kill.set, kill.way),
             }
         }
     }
@@ -433,6 +448,7 @@ impl Core {
         ensures { result.items ≡ traces_of self }
     {
         let Core {
+            chip: _,
             number: _,
             threads,
             dcache: _,
@@ -446,14 +462,5 @@ impl Core {
             traces.push_reserved(thread.into_trace());
         }
         traces
-    }
-}
-
-/// Empties a way of a set, where the cache has it.
-fn empty_way<const WAYS: usize, const LINE: usize>(cache: &mut L1<WAYS, LINE>, set: u8, way: u8)
-    ensures { cache.new ≡ emptied_in cache.old set way }
-{
-    if (set as usize) < cache.sets() && (way as usize) < WAYS {
-        cache.invalidate(set, way);
     }
 }

@@ -8,6 +8,7 @@ ghost use Rattle.t1_core.specs.Next.{AsksForWay, SendsForWay};
 
 use crate::answers::{Did, Drained, Wait};
 use crate::asker::Asker;
+use crate::insn_cache::InsnCache;
 use crate::items::store_op;
 use crate::next::next;
 use crate::phase::Phase;
@@ -20,15 +21,15 @@ use t1_packet::Op;
 
 /// The strand's request goes out, where its ring has room.
 #[tactic(auto, unfolding(crate::specs::Steps::asked))]
-fn ask(asker: Asker, thread: &mut Thread, op: Op, phase: Phase) -> Did
+fn ask(asker: Asker, icache: &InsnCache, thread: &mut Thread, op: Op, phase: Phase) -> Did
     requires asker { IsAsker asker }
     requires phase { owed phase ≡ owed thread.old.phase }
-    requires way { AsksForWay op }
+    requires way { AsksForWay icache.now.layout.ways op }
     ensures thread { thread.new ≡ (asked asker thread.old op phase).thread }
     ensures did { result ≡ (asked asker thread.old op phase).did }
-    ensures way { SendsForWay result }
+    ensures way { SendsForWay icache.now.layout.ways result }
 {
-    let dest = op_dest(op);
+    let dest = op_dest(asker.chip, op);
     if !has_room(asker.room, dest) {
         return Did::Waits(Wait::NoRoom(dest));
     }
@@ -38,15 +39,15 @@ fn ask(asker: Asker, thread: &mut Thread, op: Op, phase: Phase) -> Did
 }
 
 /// One strand executes.
-pub fn exec(asker: Asker, icache: &L1<4, 32>, dcache: &L1<4, 16>, thread: &mut Thread) -> Did
+pub fn exec(asker: Asker, icache: &InsnCache, dcache: &L1<4, 16>, thread: &mut Thread) -> Did
     requires { IsAsker asker }
     ensures thread { thread.new ≡ (thread_exec asker icache.now dcache.now thread.old).thread }
     ensures did { result ≡ (thread_exec asker icache.now dcache.now thread.old).did }
-    ensures way { SendsForWay result }
+    ensures way { SendsForWay icache.now.layout.ways result }
 {
     match next(asker, icache, dcache, thread) {
         Next::Waits(wait) => Did::Waits(wait),
-        Next::Asks { op, phase } => ask(asker, thread, op, phase),
+        Next::Asks { op, phase } => ask(asker, icache, thread, op, phase),
         Next::Moves => {
             quick_exec(asker, icache, dcache, thread);
             Did::Moved
@@ -67,7 +68,7 @@ pub fn drain_answer(asker: Asker, thread: &Thread) -> Drained
         return Drained::Out;
     };
     let op = store_op(&entry);
-    let dest = op_dest(op);
+    let dest = op_dest(asker.chip, op);
     if !has_room(asker.room, dest) {
         return Drained::NoRoom(dest);
     }

@@ -3,9 +3,12 @@ use crate::{Core, Did, Drained, Wait};
 use std::process::Abort;
 use std::test::Fail;
 use t1_event::{Config, Ending, How, ItemKind};
+use t1_num::ChipKind;
 use t1_packet::{Kills, Op, Packet, Reply, Request};
 
 pub const CONFIG: Config = Config {
+    chip: ChipKind::T1,
+    hyper: false,
     cores: 1,
     strands: 1,
     ram: 65536,

@@ -2,7 +2,6 @@
 use Rattle.std.proofs.Common.{◌≡◌, ◌<◌, ℕ, zero, suc, Bool, true, false, is_none, List, [], ◌∷◌, length, slice_index, Option, Some, None, refl, sym, ◌∙◌, subst, inl, inr, arith}
 use Rattle.std.specs.List.{slice_get}
 use Rattle.std.proofs.lemmas.Bool.{cases_Bool}
-use Rattle.t1_shape.specs.Shapes.Shape.{T1}
 use Rattle.t1_space.specs.Places.{is_io}
 use Rattle.t1_state.specs.declared.strand.Strand.{Strand}
 use Rattle.t1_state.specs.Interrupts.{due_of}
@@ -10,7 +9,7 @@ use Rattle.t1_exec.specs.declared.need.Need.{Need}
 use Rattle.t1_exec.specs.declared.need.Need.TheVariants as need
 use Rattle.t1_packet.specs.declared.op.Op.{Op}
 use Rattle.t1_packet.specs.Data.{RequestData}
-use Rattle.t1_packet.specs.Ops.{op_dest}
+use Rattle.t1_packet.specs.Ops.{op_addr, op_dest}
 use Rattle.t1_sbuf.specs.declared.entry.Entry.{Entry}
 use Rattle.t1_sbuf.specs.declared.entry.Look.{Look}
 use Rattle.t1_sbuf.specs.declared.entry.Look.TheVariants as look
@@ -31,7 +30,7 @@ use Rattle.t1_core.specs.Threads.{ThreadState, thread_need}
 use Rattle.t1_core.specs.Steps.{CoreState, asker, is_fence, plan_look, plan_of, asked, asked_fetch, asked_data, exec_fetch, exec_begin, exec_look, exec_plan, exec_phase, thread_exec, exec_at, exec_of, waited}
 use Rattle.t1_core.specs.Quick.{IsWait}
 use Rattle.t1_core.specs.Turns.{is_ready, next_place, turned_at, turn_of}
-use Rattle.t1_core.proofs.Quiet.{dest_below}
+use Rattle.t1_packet.proofs.Caches.{dest_below}
 use Rattle.t1_core_rule.specs.Histories.{History}
 use Rattle.t1_core_rule.specs.Outs.{numbers_of}
 use Rattle.t1_core_rule.specs.Parts.{standing_of, standing_at, waiting_at, part_of}
@@ -45,7 +44,7 @@ module _ (x : Asker) (icache dcache : CacheState) (t : ThreadState) (room : HasA
   asked_acts : (o : Op) (p : Phase) → IsWait (asked x t o p).did → ⊥
   unfolding asked
   asked_acts o p h =
-      let g : IsWait (asked x t o p).did → ⊥ = rw (room (op_dest T1 o) (dest_below o)) (λ k. k) in
+      let g : IsWait (asked x t o p).did → ⊥ = rw (room (op_dest x.chip o) (dest_below x.chip (op_addr o))) (λ k. k) in
       g h
 
   fetch_acts : (word : Option ℕ) → IsWait (exec_fetch x icache t word).did → ⊥
@@ -154,7 +153,7 @@ module _ (w : Setup) (core : ℕ) (h : History) (strand room : ℕ) (s : IsStead
       (exec_waits h.core strand room t e (all_wait w h.core room strand q l none)) out
 
   -- a strand that awaits no reply, and whose buffer is empty, has ended
-  pub has_ended : ((r : RequestData) → (part_of w.shape h).standing strand ≡ Out r → ⊥) → (part_of w.shape h).waiting strand ≡ [] → HasEnded (part_of w.shape h) strand
+  pub has_ended : ((r : RequestData) → (part_of w.config.chip h).standing strand ≡ Out r → ⊥) → (part_of w.config.chip h).waiting strand ≡ [] → HasEnded (part_of w.config.chip h) strand
   has_ended out empty = let e = ended_in (slice_get threads strand) refl out empty in record { ending = e.0; is = e.1; empty = empty }
 
 pub waiting_strands_have_ended : WaitingStrandsHaveEnded

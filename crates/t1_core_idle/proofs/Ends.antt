@@ -79,7 +79,7 @@ module _ (w : Setup) (core : ℕ) (h : History) (s : IsSteady w core h) where
   threads = h.core.threads
 
   -- each strand of a finished core has ended, with an empty buffer
-  pub strand_ended : (strand : ℕ) → finished_of h.core ≡ true → strand < w.config.strands → HasEnded (part_of w.shape h) strand
+  pub strand_ended : (strand : ℕ) → finished_of h.core ≡ true → strand < w.config.strands → HasEnded (part_of w.config.chip h) strand
   strand_ended strand o l =
       let size = s.size in
       let t = has_strand threads strand (omega (arith, size, l)) in
@@ -91,7 +91,7 @@ module _ (w : Setup) (core : ℕ) (h : History) (s : IsSteady w core h) where
       }
 
   -- and a core of which each strand has is finished
-  pub core_finished : ((strand : ℕ) → strand < w.config.strands → HasEnded (part_of w.shape h) strand) → finished_of h.core ≡ true
+  pub core_finished : ((strand : ℕ) → strand < w.config.strands → HasEnded (part_of w.config.chip h) strand) → finished_of h.core ≡ true
   core_finished f =
       each_over threads (λ i t e.
       let size = s.size in

@@ -7,7 +7,7 @@ pub fn requests_go_out()
     ensures { RequestsGoOut }
 {}
 
-/// In the word 31 each destination has room.
+/// In the word 511 each destination has room.
 pub fn words_can_have_all_room()
     ensures { WordsCanHaveAllRoom }
 {}

@@ -1,8 +1,8 @@
 -- A proper reply to what a strand has out: what it does to the strand and to the caches.
+use Rattle.t1_shape.specs.Shapes.{Shape}
 use Rattle.std.proofs.Common.{◌≡◌, ◌⊎◌, ℕ, ◌&&◌, Bool, true, false, List, [], ◌∷◌, ◌++◌, length, take, Option, Some, None, refl, ap, sym, ◌∙◌, subst, inl, inr, if◌then◌else◌}
 use Rattle.std.specs.List.{slice_get}
 use Rattle.std.proofs.lemmas.Bool.{cases_Bool}
-use Rattle.t1_shape.specs.Shapes.Shape.{T1}
 use Rattle.t1_shape.specs.Slots.{Line}
 use Rattle.t1_decode.specs.Words.{insn_of}
 use Rattle.t1_state.specs.declared.strand.Strand.{Strand}
@@ -48,9 +48,9 @@ pub record IsItemOf (n : ℕ) (r : ReplyData) (y : Item) : Type 0 where
   pub got : IsRead y.kind → y.got ≡ r.old
 
 -- the caches after a reply
-pub record AreAfter (r : ReplyData) (sd : List (Option Line)) (pd : List ℕ) (si : List (Option Line)) (pi : List ℕ) (a : Answered) : Type 0 where
-  pub dcache : a.dcache ≡ cache_with Dcache (with_answer T1 Dcache r.op r.way r.line sd) (pointers_with_answer T1 Dcache r.op r.way pd)
-  pub icache : a.icache ≡ cache_with Icache (with_answer T1 Icache r.op r.way r.line si) (pointers_with_answer T1 Icache r.op r.way pi)
+pub record AreAfter (chip : Shape) (r : ReplyData) (sd : List (Option Line)) (pd : List ℕ) (si : List (Option Line)) (pi : List ℕ) (a : Answered) : Type 0 where
+  pub dcache : a.dcache ≡ cache_with chip Dcache (with_answer chip Dcache r.op r.way r.line sd) (pointers_with_answer chip Dcache r.op r.way pd)
+  pub icache : a.icache ≡ cache_with chip Icache (with_answer chip Icache r.op r.way r.line si) (pointers_with_answer chip Icache r.op r.way pi)
 
 -- the fetch, load or atomic that is out is answered
 pub record IsReadBy (number ram strand n : ℕ) (r : ReplyData) (t u : ThreadState) : Type 0 where
@@ -102,22 +102,22 @@ reads_in b from s items (phase.OutFetch way seen) f = tt
 reads_in b from s items (phase.OutData word way seen) f = f.reads
 reads_in b from s items (phase.Ended e) f = tt
 
-module _ (number ram strand n : ℕ) (r : ReplyData) (good : IsProperReply T1 n r) (whole : take 32 r.line ≡ r.line) (sd : List (Option Line)) (pd : List ℕ) (si : List (Option Line)) (pi : List ℕ) where
+module _ (chip : Shape) (number ram strand n : ℕ) (r : ReplyData) (good : IsProperReply chip n r) (whole : take 32 r.line ≡ r.line) (sd : List (Option Line)) (pd : List ℕ) (si : List (Option Line)) (pi : List ℕ) where
   abbrev before : ThreadState → Answered
-  before t = record { thread = t; dcache = cache_with Dcache sd pd; icache = cache_with Icache si pi }
+  before t = record { thread = t; dcache = cache_with chip Dcache sd pd; icache = cache_with chip Icache si pi }
 
   module _ (s : Strand) (es : List Entry) (ts : List ℕ) (xs : List Item) (budget : ℕ) where
     abbrev at_phase : Phase → ThreadState
     at_phase p = record { strand = s; phase = p; stores = es; times = ts; items = xs; budget = budget }
 
     abbrev Read : Phase → Answered → Type 0
-    Read p a = IsReadBy number ram strand n r (at_phase p) a.thread × AreAfter r sd pd si pi a
+    Read p a = IsReadBy number ram strand n r (at_phase p) a.thread × AreAfter chip r sd pd si pi a
 
     abbrev fetched : Phase → Answered
     fetched p = record {
       thread = record { strand = s; phase = phase.Have r.old; stores = es; times = ts; items = xs ++ placed (fetch_item s.pc r.old) (Commit n r.seen) ∷ []; budget = budget };
-      dcache = cache_with Dcache sd pd;
-      icache = fill_with (cache_with Icache si pi) (op_addr r.op) r.way r.line;
+      dcache = cache_with chip Dcache sd pd;
+      icache = fill_with (cache_with chip Icache si pi) (op_addr r.op) r.way r.line;
     }
 
     fetch_read : (way seen : ℕ) → (let q : RequestData = record { core = number; strand = strand; item = length xs; seen = seen; op = op.Fetch s.pc way } in q ≡ answers number r)
@@ -152,11 +152,11 @@ module _ (number ram strand n : ℕ) (r : ReplyData) (good : IsProperReply T1 n 
             size = refl;
           },
           record {
-            dcache = ap (λ (v : Op). cache_with Dcache (with_answer T1 Dcache v r.way r.line sd) (pointers_with_answer T1 Dcache v r.way pd)) is_op;
+            dcache = ap (λ (v : Op). cache_with chip Dcache (with_answer chip Dcache v r.way r.line sd) (pointers_with_answer chip Dcache v r.way pd)) is_op;
             icache =
-                ap (λ (v : Op). fill_with (cache_with Icache si pi) (op_addr v) r.way r.line) (sym is_op)
-                ∙ (fetch_fill si pi s.pc way r.way r.line whole
-                ∙ ap (λ (v : Op). cache_with Icache (with_answer T1 Icache v r.way r.line si) (pointers_with_answer T1 Icache v r.way pi)) is_op);
+                ap (λ (v : Op). fill_with (cache_with chip Icache si pi) (op_addr v) r.way r.line) (sym is_op)
+                ∙ (fetch_fill chip si pi s.pc way r.way r.line whole
+                ∙ ap (λ (v : Op). cache_with chip Icache (with_answer chip Icache v r.way r.line si) (pointers_with_answer chip Icache v r.way pi)) is_op);
           },
         )
 
@@ -172,8 +172,8 @@ module _ (number ram strand n : ℕ) (r : ReplyData) (good : IsProperReply T1 n 
             items = xs ++ placed (read_item (need_of s (insn_of word) ram) r.old) (Commit n r.seen) ∷ [];
             budget = budget;
           };
-          dcache = fill_with (cache_with Dcache sd pd) (op_addr r.op) r.way (take 16 r.line);
-          icache = cache_with Icache si pi;
+          dcache = fill_with (cache_with chip Dcache sd pd) (op_addr r.op) r.way (take 16 r.line);
+          icache = cache_with chip Icache si pi;
         }
 
     data_read : (word way seen : ℕ) → IsReading (need_of s (insn_of word) ram)
@@ -188,7 +188,7 @@ module _ (number ram strand n : ℕ) (r : ReplyData) (good : IsProperReply T1 n 
         let y : Item = placed (read_item m r.old) (Commit n r.seen) in
         let u : Strand = after_of s (insn_of word) r.old in
         let v = value_of m way r.old (Commit n r.seen) r.way reads in
-        let reply_way : IsReplyWay T1 o r.way = subst (λ (w : Op). IsReplyWay T1 w r.way) (sym is_op) good.way in (
+        let reply_way : IsReplyWay chip o r.way = subst (λ (w : Op). IsReplyWay chip w r.way) (sym is_op) good.way in (
           record {
             item = y;
             items = refl;
@@ -214,12 +214,12 @@ module _ (number ram strand n : ℕ) (r : ReplyData) (good : IsProperReply T1 n 
           },
           record {
             dcache =
-                ap (λ (w : Op). fill_with (cache_with Dcache sd pd) (op_addr w) r.way (take 16 r.line)) (sym is_op)
-                ∙ (data_fill m way r.way r.line sd pd reads reply_way
-                ∙ ap (λ (w : Op). cache_with Dcache (with_answer T1 Dcache w r.way r.line sd) (pointers_with_answer T1 Dcache w r.way pd)) is_op);
+                ap (λ (w : Op). fill_with (cache_with chip Dcache sd pd) (op_addr w) r.way (take 16 r.line)) (sym is_op)
+                ∙ (data_fill chip m way r.way r.line sd pd reads reply_way
+                ∙ ap (λ (w : Op). cache_with chip Dcache (with_answer chip Dcache w r.way r.line sd) (pointers_with_answer chip Dcache w r.way pd)) is_op);
             icache =
-                data_keep m way r.way r.line si pi reads
-                ∙ ap (λ (w : Op). cache_with Icache (with_answer T1 Icache w r.way r.line si) (pointers_with_answer T1 Icache w r.way pi)) is_op;
+                data_keep chip m way r.way r.line si pi reads
+                ∙ ap (λ (w : Op). cache_with chip Icache (with_answer chip Icache w r.way r.line si) (pointers_with_answer chip Icache w r.way pi)) is_op;
           },
         )
 
@@ -228,7 +228,7 @@ module _ (number ram strand n : ℕ) (r : ReplyData) (good : IsProperReply T1 n 
     unfolding word_came
     fetch_out way seen tail e =
         let same = first_same (record { core = number; strand = strand; item = length xs; seen = seen; op = op.Fetch s.pc way }) (answers number r) [] tail e in
-        let yes = accepted sd si pd pi r (length xs) (op.Fetch s.pc way) (ap (λ (v : RequestData). v.op) same) (ap (λ (v : RequestData). v.item) same) good.way good.old in
+        let yes = accepted chip sd si pd pi r (length xs) (op.Fetch s.pc way) (ap (λ (v : RequestData). v.op) same) (ap (λ (v : RequestData). v.item) same) good.way good.old in
         subst (λ (b : Bool). Read (phase.OutFetch way seen) (if b then fetched (phase.OutFetch way seen) else before (at_phase (phase.OutFetch way seen)))) (sym yes) (fetch_read way seen same)
 
     data_out : (word way seen : ℕ) (tail : List RequestData) → IsReading (need_of s (insn_of word) ram) → read_out number strand ram s (length xs) (phase.OutData word way seen) ≡ answers number r ∷ tail
@@ -236,7 +236,7 @@ module _ (number ram strand n : ℕ) (r : ReplyData) (good : IsProperReply T1 n 
     unfolding value_came unit_done thread_need
     data_out word way seen tail reads e =
         let same = first_same (record { core = number; strand = strand; item = length xs; seen = seen; op = op_for (need_of s (insn_of word) ram) way }) (answers number r) [] tail e in
-        let yes = accepted sd si pd pi r (length xs) (op_for (need_of s (insn_of word) ram) way) (ap (λ (v : RequestData). v.op) same) (ap (λ (v : RequestData). v.item) same) good.way good.old in
+        let yes = accepted chip sd si pd pi r (length xs) (op_for (need_of s (insn_of word) ram) way) (ap (λ (v : RequestData). v.op) same) (ap (λ (v : RequestData). v.item) same) good.way good.old in
         subst (λ (b : Bool). Read (phase.OutData word way seen) (if b then loaded word else before (at_phase (phase.OutData word way seen)))) (sym yes) (data_read word way seen reads same)
 
     phase_read : (p : Phase) (tail : List RequestData) → ReadsIn ram s p → read_out number strand ram s (length xs) p ≡ answers number r ∷ tail → Read p (answered_read ram n r (before (at_phase p)) p)
@@ -249,7 +249,7 @@ module _ (number ram strand n : ℕ) (r : ReplyData) (good : IsProperReply T1 n 
   -- ---- a store
 
   abbrev Stored : ThreadState → Answered → Type 0
-  Stored t a = IsStoredBy number strand n r t a.thread × AreAfter r sd pd si pi a
+  Stored t a = IsStoredBy number strand n r t a.thread × AreAfter chip r sd pd si pi a
 
   store_answered : (t : ThreadState) (es : List Entry) (ts : List ℕ) (tail : List RequestData) → t.stores ≡ es → t.times ≡ ts → AreSent es ts → stores_out number strand es ts ≡ answers number r ∷ tail
       → Stored t (answered_store n r (before t) (slice_get es 0))
@@ -261,22 +261,22 @@ module _ (number ram strand n : ℕ) (r : ReplyData) (good : IsProperReply T1 n 
       let is_op : store_op d ≡ r.op = ap (λ (w : RequestData). w.op) same in
       let is_item : d.item ≡ r.item = ap (λ (w : RequestData). w.item) same in
       let is_seen : k ≡ r.seen = ap (λ (w : RequestData). w.seen) same in
-      let b : Answered = record { thread = acknowledged t d (Commit n r.seen); dcache = updated (cache_with Dcache sd pd) d.addr d.size d.value; icache = cache_with Icache si pi } in
-      let yes : (d.sent && accepts (cache_with Dcache sd pd) (cache_with Icache si pi) r d.item (store_op d)) ≡ true =
-      rw (f.0, accepted sd si pd pi r d.item (store_op d) is_op is_item good.way good.old) refl in
+      let b : Answered = record { thread = acknowledged t d (Commit n r.seen); dcache = updated (cache_with chip Dcache sd pd) d.addr d.size d.value; icache = cache_with chip Icache si pi } in
+      let yes : (d.sent && accepts (cache_with chip Dcache sd pd) (cache_with chip Icache si pi) r d.item (store_op d)) ≡ true =
+      rw (f.0, accepted chip sd si pd pi r d.item (store_op d) is_op is_item good.way good.old) refl in
       let g : Stored t b = (
         record { entry = d; rest = ds; later = ks; stores = stores; times = times ∙ ap (λ (j : ℕ). j ∷ ks) is_seen; op_is = is_op; place = is_item; now = refl },
         record {
-          dcache = store_fill sd pd d.addr d.size d.value r.way r.line
-              ∙ ap (λ (w : Op). cache_with Dcache (with_answer T1 Dcache w r.way r.line sd) (pointers_with_answer T1 Dcache w r.way pd)) is_op;
-          icache = ap (λ (w : Op). cache_with Icache (with_answer T1 Icache w r.way r.line si) (pointers_with_answer T1 Icache w r.way pi)) is_op;
+          dcache = store_fill chip sd pd d.addr d.size d.value r.way r.line
+              ∙ ap (λ (w : Op). cache_with chip Dcache (with_answer chip Dcache w r.way r.line sd) (pointers_with_answer chip Dcache w r.way pd)) is_op;
+          icache = ap (λ (w : Op). cache_with chip Icache (with_answer chip Icache w r.way r.line si) (pointers_with_answer chip Icache w r.way pi)) is_op;
         },
       ) in
       subst (λ (x : Bool). Stored t (if x then b else before t)) (sym yes) g
 
   pub record Answers (t : ThreadState) (a : Answered) : Type 0 where
     pub thread : ((is_store r.op ≡ false) × IsReadBy number ram strand n r t a.thread) ⊎ ((is_store r.op ≡ true) × IsStoredBy number strand n r t a.thread)
-    pub caches : AreAfter r sd pd si pi a
+    pub caches : AreAfter chip r sd pd si pi a
 
   pub answer_case : (t : ThreadState) (tail : List RequestData) → ReadsIn ram t.strand t.phase → AreSent t.stores t.times → outs number strand ram (is_store r.op) t ≡ answers number r ∷ tail
       → Answers t (thread_answer ram n r (before t))

@@ -1,8 +1,8 @@
 -- What a load or an atomic asks for, the item that it makes, and what its reply does to a cache.
+use Rattle.t1_shape.specs.Shapes.{Shape}
 use Rattle.std.proofs.Common.{◌≡◌, ◌≤◌, ◌<◌, ℕ, ◌+◌, ◌==◌, List, take, Option, Some, None, refl, ap, sym, ◌∙◌, subst, inl, inr, arith}
 use Rattle.std.proofs.lemmas.Bool.{cases_Bool}
 use Rattle.t1_num.specs.Memory.{IsSize}
-use Rattle.t1_shape.specs.Shapes.Shape.{T1}
 use Rattle.t1_shape.specs.Slots.{Line, victim_of}
 use Rattle.t1_exec.specs.declared.need.Need.{Need}
 use Rattle.t1_exec.specs.declared.need.Need.TheVariants as need
@@ -34,44 +34,44 @@ use Rattle.t1_core_rule.proofs.Pieces.{size_some}
 pub below : (ram a z : ℕ) → IsSize z → a + z ≤ ram → a < ram
 below ram a z is l = let some = size_some z is in omega (arith, some, l)
 
-pub op_fine : (ram : ℕ) (n : Need) (way : ℕ) → IsReading n → IsShapedNeed ram n → way < 4 → IsAsked T1 ram (op_for n way)
-op_fine ram (need.Load a z) way r f w = (
+pub op_fine : (chip : Shape) (ram : ℕ) (n : Need) (way : ℕ) → IsReading n → IsShapedNeed ram n → way < (layout chip Dcache).ways → IsAsked chip ram (op_for n way)
+op_fine chip ram (need.Load a z) way r f w = (
   record { size_is = f.0.size_is; aligned = f.0.aligned },
   elim f.1 [ inl l ↦ inl (below ram a z f.0.size_is l) | inr io ↦ inr io ],
   w,
 )
-op_fine ram (need.Atomic a z (Swap new)) way r f w = (record { size_is = f.0.size_is; aligned = f.0.aligned }, below ram a z f.0.size_is f.1)
-op_fine ram (need.Atomic a z (Cas expect new)) way r f w = (record { size_is = f.0.size_is; aligned = f.0.aligned }, below ram a z f.0.size_is f.1)
-op_fine ram need.Plain way r f w = absurd r
-op_fine ram need.Halt way r f w = absurd r
-op_fine ram (need.Trap number) way r f w = absurd r
-op_fine ram (need.Store a z p) way r f w = absurd r
-op_fine ram (need.Membar mask) way r f w = absurd r
-op_fine ram need.Flush way r f w = absurd r
+op_fine chip ram (need.Atomic a z (Swap new)) way r f w = (record { size_is = f.0.size_is; aligned = f.0.aligned }, below ram a z f.0.size_is f.1)
+op_fine chip ram (need.Atomic a z (Cas expect new)) way r f w = (record { size_is = f.0.size_is; aligned = f.0.aligned }, below ram a z f.0.size_is f.1)
+op_fine chip ram need.Plain way r f w = absurd r
+op_fine chip ram need.Halt way r f w = absurd r
+op_fine chip ram (need.Trap number) way r f w = absurd r
+op_fine chip ram (need.Store a z p) way r f w = absurd r
+op_fine chip ram (need.Membar mask) way r f w = absurd r
+op_fine chip ram need.Flush way r f w = absurd r
 
-pub way_below : (cache : Cache) (c : CacheState) (addr : ℕ) → IsCache cache c → 0 < (layout T1 cache).ways → victim_at c addr < (layout T1 cache).ways
-way_below cache c addr is some =
-    let ways : c.layout.ways ≡ (layout T1 cache).ways = ap (λ g. g.ways) is.layout_is in
+pub way_below : (chip : Shape) (cache : Cache) (c : CacheState) (addr : ℕ) → IsCache chip cache c → 0 < (layout chip cache).ways → victim_at c addr < (layout chip cache).ways
+way_below chip cache c addr is some =
+    let ways : c.layout.ways ≡ (layout chip cache).ways = ap (λ g. g.ways) is.layout_is in
     subst (λ (n : ℕ). victim_at c addr < n) ways
     (victim_below c addr (subst (λ (n : ℕ). 0 < n) (sym ways) some) (subst (λ (n : ℕ). ArePointers n c.pointers) (sym ways) is.pointers_are))
 
-pub data_victim : (dcache : CacheState) (slots : Cache → List (Option Line)) (pointers : Cache → List ℕ) (n : Need) (addr : ℕ) → ((a z : ℕ) → n ≡ need.Load a z → a ≡ addr) → IsReading n → (cache : Cache) (line : ℕ) → filled_line cache (op_for n (victim_at dcache addr)) ≡ Some line
-    → dcache ≡ cache_with Dcache (slots Dcache) (pointers Dcache) → asked_way (op_for n (victim_at dcache addr)) ≡ victim_of (layout T1 cache) (slots cache) (pointers cache) line
+pub data_victim : (chip : Shape) (dcache : CacheState) (slots : Cache → List (Option Line)) (pointers : Cache → List ℕ) (n : Need) (addr : ℕ) → ((a z : ℕ) → n ≡ need.Load a z → a ≡ addr) → IsReading n → (cache : Cache) (line : ℕ) → filled_line cache (op_for n (victim_at dcache addr)) ≡ Some line
+    → dcache ≡ cache_with chip Dcache (slots Dcache) (pointers Dcache) → asked_way (op_for n (victim_at dcache addr)) ≡ victim_of (layout chip cache) (slots cache) (pointers cache) line
 unfolding victim_at
-data_victim dcache slots pointers (need.Load a z) addr f r Dcache line e is =
+data_victim chip dcache slots pointers (need.Load a z) addr f r Dcache line e is =
     let l : line_of Dcache a ≡ line = cc (e) in
     ap (λ (c : CacheState). victim_at c addr) is
-    ∙ (ap (λ (m : ℕ). victim_of (layout T1 Dcache) (slots Dcache) (pointers Dcache) (line_of Dcache m)) (sym (f a z refl))
-    ∙ ap (λ (n : ℕ). victim_of (layout T1 Dcache) (slots Dcache) (pointers Dcache) n) l)
-data_victim dcache slots pointers (need.Load a z) addr f r Icache line e is = let clash : ◌≡◌ {A = Option ℕ} None (Some line) = e in cc
-data_victim dcache slots pointers (need.Atomic a z (Swap new)) addr f r cache line e is = let clash : ◌≡◌ {A = Option ℕ} None (Some line) = e in cc
-data_victim dcache slots pointers (need.Atomic a z (Cas expect new)) addr f r cache line e is = let clash : ◌≡◌ {A = Option ℕ} None (Some line) = e in cc
-data_victim dcache slots pointers need.Plain addr f r cache line e is = absurd r
-data_victim dcache slots pointers need.Halt addr f r cache line e is = absurd r
-data_victim dcache slots pointers (need.Trap number) addr f r cache line e is = absurd r
-data_victim dcache slots pointers (need.Store a z p) addr f r cache line e is = absurd r
-data_victim dcache slots pointers (need.Membar mask) addr f r cache line e is = absurd r
-data_victim dcache slots pointers need.Flush addr f r cache line e is = absurd r
+    ∙ (ap (λ (m : ℕ). victim_of (layout chip Dcache) (slots Dcache) (pointers Dcache) (line_of Dcache m)) (sym (f a z refl))
+    ∙ ap (λ (n : ℕ). victim_of (layout chip Dcache) (slots Dcache) (pointers Dcache) n) l)
+data_victim chip dcache slots pointers (need.Load a z) addr f r Icache line e is = let clash : ◌≡◌ {A = Option ℕ} None (Some line) = e in cc
+data_victim chip dcache slots pointers (need.Atomic a z (Swap new)) addr f r cache line e is = let clash : ◌≡◌ {A = Option ℕ} None (Some line) = e in cc
+data_victim chip dcache slots pointers (need.Atomic a z (Cas expect new)) addr f r cache line e is = let clash : ◌≡◌ {A = Option ℕ} None (Some line) = e in cc
+data_victim chip dcache slots pointers need.Plain addr f r cache line e is = absurd r
+data_victim chip dcache slots pointers need.Halt addr f r cache line e is = absurd r
+data_victim chip dcache slots pointers (need.Trap number) addr f r cache line e is = absurd r
+data_victim chip dcache slots pointers (need.Store a z p) addr f r cache line e is = absurd r
+data_victim chip dcache slots pointers (need.Membar mask) addr f r cache line e is = absurd r
+data_victim chip dcache slots pointers need.Flush addr f r cache line e is = absurd r
 
 pub read_kind : (n : Need) → IsReading n → IsRead (read_item n 0).kind
 read_kind (need.Load a z) r = refl
@@ -116,27 +116,27 @@ value_of (need.Membar mask) w v how way r = absurd r
 value_of need.Flush w v how way r = absurd r
 
 -- an atomic's reply has no way, so nothing is filled
-pub data_fill : (m : Need) (w : ℕ) (way : Option ℕ) (line : List ℕ) (sd : List (Option Line)) (pd : List ℕ) → IsReading m → IsReplyWay T1 (op_for m w) way
-    → fill_with (cache_with Dcache sd pd) (op_addr (op_for m w)) way (take 16 line)
-    ≡ cache_with Dcache (with_answer T1 Dcache (op_for m w) way line sd) (pointers_with_answer T1 Dcache (op_for m w) way pd)
-data_fill (need.Load a z) w way line sd pd r e = load_fill sd pd a z w way line
-data_fill (need.Atomic a z (Swap new)) w way line sd pd r e = rw e refl
-data_fill (need.Atomic a z (Cas expect new)) w way line sd pd r e = rw e refl
-data_fill need.Plain w way line sd pd r e = absurd r
-data_fill need.Halt w way line sd pd r e = absurd r
-data_fill (need.Trap number) w way line sd pd r e = absurd r
-data_fill (need.Store a z p) w way line sd pd r e = absurd r
-data_fill (need.Membar mask) w way line sd pd r e = absurd r
-data_fill need.Flush w way line sd pd r e = absurd r
+pub data_fill : (chip : Shape) (m : Need) (w : ℕ) (way : Option ℕ) (line : List ℕ) (sd : List (Option Line)) (pd : List ℕ) → IsReading m → IsReplyWay chip (op_for m w) way
+    → fill_with (cache_with chip Dcache sd pd) (op_addr (op_for m w)) way (take 16 line)
+    ≡ cache_with chip Dcache (with_answer chip Dcache (op_for m w) way line sd) (pointers_with_answer chip Dcache (op_for m w) way pd)
+data_fill chip (need.Load a z) w way line sd pd r e = load_fill chip sd pd a z w way line
+data_fill chip (need.Atomic a z (Swap new)) w way line sd pd r e = rw e refl
+data_fill chip (need.Atomic a z (Cas expect new)) w way line sd pd r e = rw e refl
+data_fill chip need.Plain w way line sd pd r e = absurd r
+data_fill chip need.Halt w way line sd pd r e = absurd r
+data_fill chip (need.Trap number) w way line sd pd r e = absurd r
+data_fill chip (need.Store a z p) w way line sd pd r e = absurd r
+data_fill chip (need.Membar mask) w way line sd pd r e = absurd r
+data_fill chip need.Flush w way line sd pd r e = absurd r
 
-pub data_keep : (m : Need) (w : ℕ) (way : Option ℕ) (line : List ℕ) (si : List (Option Line)) (pi : List ℕ) → IsReading m
-    → cache_with Icache si pi ≡ cache_with Icache (with_answer T1 Icache (op_for m w) way line si) (pointers_with_answer T1 Icache (op_for m w) way pi)
-data_keep (need.Load a z) w way line si pi r = refl
-data_keep (need.Atomic a z (Swap new)) w way line si pi r = refl
-data_keep (need.Atomic a z (Cas expect new)) w way line si pi r = refl
-data_keep need.Plain w way line si pi r = absurd r
-data_keep need.Halt w way line si pi r = absurd r
-data_keep (need.Trap number) w way line si pi r = absurd r
-data_keep (need.Store a z p) w way line si pi r = absurd r
-data_keep (need.Membar mask) w way line si pi r = absurd r
-data_keep need.Flush w way line si pi r = absurd r
+pub data_keep : (chip : Shape) (m : Need) (w : ℕ) (way : Option ℕ) (line : List ℕ) (si : List (Option Line)) (pi : List ℕ) → IsReading m
+    → cache_with chip Icache si pi ≡ cache_with chip Icache (with_answer chip Icache (op_for m w) way line si) (pointers_with_answer chip Icache (op_for m w) way pi)
+data_keep chip (need.Load a z) w way line si pi r = refl
+data_keep chip (need.Atomic a z (Swap new)) w way line si pi r = refl
+data_keep chip (need.Atomic a z (Cas expect new)) w way line si pi r = refl
+data_keep chip need.Plain w way line si pi r = absurd r
+data_keep chip need.Halt w way line si pi r = absurd r
+data_keep chip (need.Trap number) w way line si pi r = absurd r
+data_keep chip (need.Store a z p) w way line si pi r = absurd r
+data_keep chip (need.Membar mask) w way line si pi r = absurd r
+data_keep chip need.Flush w way line si pi r = absurd r

@@ -1,7 +1,7 @@
 -- Each strand after a proper packet: one that is not answered, and one whose read is answered.
+use Rattle.t1_shape.specs.Shapes.{Shape}
 use Rattle.std.proofs.Common.{◌≡◌, ◌⊎◌, ◌≤◌, ℕ, ◌+◌, Bool, true, false, List, [], ◌∷◌, ◌++◌, length, Some, refl, ap, sym, ◌∙◌, subst, inl, inr, arith}
 use mathlib.Core.List.{append-nil}
-use Rattle.t1_shape.specs.Shapes.Shape.{T1}
 use Rattle.t1_packet.specs.declared.packet.Packet.{Packet}
 use Rattle.t1_packet.specs.Data.{RequestData, ReplyData}
 use Rattle.t1_packet.specs.Ops.{is_store}
@@ -65,24 +65,24 @@ comes_now received p r k n seen x is item o how =
       got = o.got;
     }
 
-module _ (number ram clock budget : ℕ) (received : List Packet) (p : Packet) (le : clock ≤ p.index) where
+module _ (chip : Shape) (number ram clock budget : ℕ) (received : List Packet) (p : Packet) (le : clock ≤ p.index) where
   abbrev pub longer : List Packet
   longer = received ++ p ∷ []
 
   abbrev pub caches : Caches
-  caches = slots_by T1 number received
+  caches = slots_by chip number received
 
   abbrev pub later : Caches
-  later = slots_by T1 number longer
+  later = slots_by chip number longer
 
   pub up_to : AreUpTo clock caches later
-  up_to t l = (caches_follow_packets T1 number received p).slots_stay t (omega (arith, l, le))
+  up_to t l = (caches_follow_packets chip number received p).slots_stay t (omega (arith, l, le))
 
   abbrev pub Before : ℕ → ThreadState → Type 0
-  Before s t = IsFittingThread number ram clock budget received s t
+  Before s t = IsFittingThread chip number ram clock budget received s t
 
   abbrev pub After : ℕ → ThreadState → Type 0
-  After s t = IsFittingThread number ram (p.index + 1) budget longer s t
+  After s t = IsFittingThread chip number ram (p.index + 1) budget longer s t
 
   pub old_come : (s : ℕ) (t : ThreadState) → Before s t → (k n seen : ℕ) (x : Item) → HasItem t.items k x → x.how ≡ Commit n seen → HasCome longer s k n seen x
   old_come s t f k n seen x h how = come_more received p s k n seen x (f.came k n seen x h how)
@@ -96,8 +96,8 @@ module _ (number ram clock budget : ℕ) (received : List Packet) (p : Packet) (
       let later_now : clock ≤ p.index + 1 = omega (arith, le) in
       record {
         budget_is = f.budget_is;
-        kept = events_keep_order (one_destination T1) (track_of ram clock t) (Pass (p.index + 1)) later_now f.kept;
-        right = events_keep_places T1 ram caches later (one_destination T1) (track_of ram clock t) (Pass (p.index + 1)) later_now f.kept up_to tt f.right;
+        kept = events_keep_order (one_destination chip) (track_of ram clock t) (Pass (p.index + 1)) later_now f.kept;
+        right = events_keep_places chip ram caches later (one_destination chip) (track_of ram clock t) (Pass (p.index + 1)) later_now f.kept up_to tt f.right;
         entries = f.entries;
         times = λ k x h. old_time s t f k x h;
         way = f.way;
@@ -138,9 +138,9 @@ module _ (number ram clock budget : ℕ) (received : List Packet) (p : Packet) (
       read_come = record {
         thread = record {
           budget_is = a.budget ∙ f.budget_is;
-          kept = subst (λ (v : Track). IsKept (one_destination T1) v) (sym answered_track) (events_keep_order (one_destination T1) (track_of ram clock t) (Answer p.index a.item) allowed f.kept);
-          right = subst (λ (v : Track). ArePlacedRightly T1 ram later v) (sym answered_track)
-              (events_keep_places T1 ram caches later (one_destination T1) (track_of ram clock t) (Answer p.index a.item) allowed f.kept up_to tt f.right);
+          kept = subst (λ (v : Track). IsKept (one_destination chip) v) (sym answered_track) (events_keep_order (one_destination chip) (track_of ram clock t) (Answer p.index a.item) allowed f.kept);
+          right = subst (λ (v : Track). ArePlacedRightly chip ram later v) (sym answered_track)
+              (events_keep_places chip ram caches later (one_destination chip) (track_of ram clock t) (Answer p.index a.item) allowed f.kept up_to tt f.right);
           entries = rw (a.items, a.stores) (entries_push t.items a.item t.stores f.entries);
           times = λ k y h.
               elim (split_item k y h) [
@@ -152,7 +152,7 @@ module _ (number ram clock budget : ℕ) (received : List Packet) (p : Packet) (
           way = (
             f.way.0,
             (let same : stores_out number r.strand u.stores u.times ≡ stores_out number r.strand t.stores t.times = rw (a.stores, a.times) refl in
-                subst (λ (rs : List RequestData). GoTo T1 f.way.0 rs) (sym same) f.way.1),
+                subst (λ (rs : List RequestData). GoTo chip f.way.0 rs) (sym same) f.way.1),
           );
           came = λ k n seen y h how.
               elim (split_item k y h) [

@@ -2,7 +2,6 @@
 use Rattle.std.proofs.Common.{◌≡◌, ℕ, not, Bool, true, false, List, [], ◌∷◌, ◌++◌, length, Option, Some, None, refl, ap, sym, ◌∙◌, subst, inl, inr}
 use Rattle.std.proofs.lemmas.Bool.{cases_Bool, eq-eqb}
 use Rattle.std.proofs.lemmas.List.{map-append}
-use Rattle.t1_shape.specs.Shapes.Shape.{T1}
 use Rattle.t1_packet.specs.declared.cache.Cache.{Cache}
 use Rattle.t1_packet.specs.Caches.{filled_line}
 use Rattle.t1_packet.specs.Data.{RequestData}
@@ -33,7 +32,7 @@ use Rattle.t1_core_rule.proofs.Nexts as nexts
 use Rattle.t1_core_rule.proofs.Nexts.{IsNext, marked, next_is, next_goes, outs_were, outs_are, entry_numbered, entry_in, good_in}
 use mathlib.Core.List.{append-nil}
 
-module _ (x : Asker) (icache dcache : CacheState) (caches : Caches) (pointers : Cache → List ℕ) (t : ThreadState) (good : AreGoodEntries x.ram t.stores) where
+module _ (x : Asker) (icache dcache : CacheState) (caches : Caches) (pointers : Cache → List ℕ) (t : ThreadState) (good : AreGoodEntries x.chip x.ram t.stores) where
   abbrev Move : ThreadDrained → Type 0
   Move a = IsMove x icache dcache caches pointers t a.thread (drained_by a.did)
 
@@ -49,21 +48,21 @@ module _ (x : Asker) (icache dcache : CacheState) (caches : Caches) (pointers : 
     abbrev new : List Entry
     new = n.front ++ marked e ∷ n.rest
 
-    goods : AreGoodEntries x.ram (n.front ++ e ∷ n.rest)
-    goods = subst (λ (es : List Entry). AreGoodEntries x.ram es) n.are good
+    goods : AreGoodEntries x.chip x.ram (n.front ++ e ∷ n.rest)
+    goods = subst (λ (es : List Entry). AreGoodEntries x.chip x.ram es) n.are good
 
-    own : IsGoodEntry x.ram e
-    own = good_in x.ram (n.front ++ e ∷ n.rest) e goods (in_right e n.front (e ∷ n.rest) (inl refl))
+    own : IsGoodEntry x.chip x.ram e
+    own = good_in x.chip x.ram (n.front ++ e ∷ n.rest) e goods (in_right e n.front (e ∷ n.rest) (inl refl))
 
     -- what is out goes where it goes
-    goes : (f : Entry) → IsIn f n.front → op_dest T1 (store_op f) ≡ op_dest T1 (store_op e)
+    goes : (f : Entry) → IsIn f n.front → op_dest x.chip (store_op f) ≡ op_dest x.chip (store_op e)
     goes f h =
-        let f_good = good_in x.ram (n.front ++ e ∷ n.rest) f goods (in_left f n.front (e ∷ n.rest) h) in
+        let f_good = good_in x.chip x.ram (n.front ++ e ∷ n.rest) f goods (in_left f n.front (e ∷ n.rest) h) in
         let same : f.dest ≡ e.dest = nexts.front_goes e.dest n.front (e ∷ n.rest) t.times n.out (subst (λ (es : List Entry). are_sent_to e.dest es ≡ true) n.are all) f h in
         sym f_good.dest ∙ (same ∙ own.dest)
 
     together : AreEntriesOf t.items (n.front ++ e ∷ n.rest) → (i : ℕ) (y z : Item) → IsIn i (numbers_of n.front) → HasItem t.items i y → HasItem t.items e.item z
-        → one_destination T1 y.addr z.addr ≡ false
+        → one_destination x.chip y.addr z.addr ≡ false
     together entries i y z h has_y has_z =
         let q = entry_numbered n.front i h in
         let f : Entry = q.0 in
@@ -73,8 +72,8 @@ module _ (x : Asker) (icache dcache : CacheState) (caches : Caches) (pointers : 
         let z_is : b.item ≡ z = one_item t.items e.item b.item z b.has has_z in
         let y_addr : y.addr ≡ f.addr = ap (λ (v : Item). v.addr) (sym y_is) ∙ a.addr in
         let z_addr : z.addr ≡ e.addr = ap (λ (v : Item). v.addr) (sym z_is) ∙ b.addr in
-        let same : dest_of T1 y.addr ≡ dest_of T1 z.addr = ap (λ (v : ℕ). dest_of T1 v) y_addr ∙ (goes f q.1 ∙ ap (λ (v : ℕ). dest_of T1 v) (sym z_addr)) in
-        ap not (eq-eqb (dest_of T1 y.addr) (dest_of T1 z.addr) same)
+        let same : dest_of x.chip y.addr ≡ dest_of x.chip z.addr = ap (λ (v : ℕ). dest_of x.chip v) y_addr ∙ (goes f q.1 ∙ ap (λ (v : ℕ). dest_of x.chip v) (sym z_addr)) in
+        ap not (eq-eqb (dest_of x.chip y.addr) (dest_of x.chip z.addr) same)
 
     was : stores_out x.number x.strand t.stores t.times ≡ stores_out x.number x.strand n.front t.times
     was = ap (λ (es : List Entry). stores_out x.number x.strand es t.times) n.are ∙ outs_were x.number x.strand n.front (e ∷ n.rest) t.times n.out
@@ -93,11 +92,11 @@ module _ (x : Asker) (icache dcache : CacheState) (caches : Caches) (pointers : 
         sym (ap (λ (rs : List RequestData). read_out x.number x.strand x.ram t.strand (length t.items) t.phase ++ rs) (class_store_not x.strand r refl)
         ∙ append-nil (read_out x.number x.strand x.ram t.strand (length t.items) t.phase))
 
-    way : GoTo T1 (op_dest T1 (store_op e)) (stores_out x.number x.strand (sent_next t.stores) (t.times ++ x.time ∷ []))
+    way : GoTo x.chip (op_dest x.chip (store_op e)) (stores_out x.number x.strand (sent_next t.stores) (t.times ++ x.time ∷ []))
     way =
-        subst (λ (rs : List RequestData). GoTo T1 (op_dest T1 (store_op e)) rs) (sym now)
-        (nexts.go_to_push (op_dest T1 (store_op e)) (stores_out x.number x.strand n.front t.times) r
-        (nexts.outs_go x.number x.strand (op_dest T1 (store_op e)) n.front t.times goes) refl)
+        subst (λ (rs : List RequestData). GoTo x.chip (op_dest x.chip (store_op e)) rs) (sym now)
+        (nexts.go_to_push x.chip (op_dest x.chip (store_op e)) (stores_out x.number x.strand n.front t.times) r
+        (nexts.outs_go x.chip x.number x.strand (op_dest x.chip (store_op e)) n.front t.times goes) refl)
 
     numbers : numbers_of t.stores ≡ numbers_of n.front ++ e.item ∷ numbers_of n.rest
     numbers = ap numbers_of n.are ∙ map-append (λ (d : Entry). d.item) n.front (e ∷ n.rest)
@@ -105,7 +104,7 @@ module _ (x : Asker) (icache dcache : CacheState) (caches : Caches) (pointers : 
     send : IsMove x icache dcache caches pointers t (store_sent t x.time) (r ∷ [])
     send = record {
       sent = λ f. subst (λ (es : List Entry). AreSent es (t.times ++ x.time ∷ [])) (sym n.after) (nexts.sent_more n.front e n.rest t.times x.time n.out n.left);
-      good = λ g. subst (λ (es : List Entry). AreGoodEntries x.ram es) (sym n.after) (nexts.good_marked x.ram n.front e n.rest goods);
+      good = λ g. subst (λ (es : List Entry). AreGoodEntries x.chip x.ram es) (sym n.after) (nexts.good_marked x.chip x.ram n.front e n.rest goods);
       fresh = λ q h. elim h [
         | inl same ↦ subst (λ (v : RequestData). IsFresh x v) (sym same) (record { core = refl; strand = refl; seen = refl; asked = own.asked })
         | inr none ↦ absurd none
@@ -113,7 +112,7 @@ module _ (x : Asker) (icache dcache : CacheState) (caches : Caches) (pointers : 
       outs = λ f b. joins b;
       keeps = λ k y h. h;
       made = λ k y h. inl h;
-      way = λ f d. (op_dest T1 (store_op e), way);
+      way = λ f d. (op_dest x.chip (store_op e), way);
       event = Some Send;
       is = rw (ap numbers_of n.after ∙ (nexts.numbers_marked n.front e n.rest ∙ ap numbers_of (sym n.are))) refl;
       right = λ ready. (let entries : AreEntriesOf t.items (n.front ++ e ∷ n.rest) = subst (λ (es : List Entry). AreEntriesOf t.items es) n.are ready.entries in
@@ -141,9 +140,9 @@ module _ (x : Asker) (icache dcache : CacheState) (caches : Caches) (pointers : 
   next_move f None e = still drained.Out refl
   next_move f (Some d) e =
       let p = next_goes t.stores d e in
-      elim (cases_Bool (has_room x.room (op_dest T1 (store_op d)))) [
+      elim (cases_Bool (has_room x.room (op_dest x.chip (store_op d)))) [
         | inl room ↦ rw room (send d (next_is t.stores t.times d f p.0) p.1)
-        | inr full ↦ rw full (still (drained.NoRoom (op_dest T1 (store_op d))) refl)
+        | inr full ↦ rw full (still (drained.NoRoom (op_dest x.chip (store_op d))) refl)
       ]
 
   by_stores : AreSent t.stores t.times → (es : List Entry) → t.stores ≡ es → Move (drain_stores x t es)

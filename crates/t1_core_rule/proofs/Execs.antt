@@ -3,7 +3,6 @@ use Rattle.std.proofs.Common.{◌≡◌, ◌⊎◌, ◌<◌, ℕ, ◌%◌, ◌==
 use Rattle.std.proofs.lemmas.Bool.{cases_Bool, eqb-true, ltb-true, and_parts}
 use Rattle.std.proofs.lemmas.List.{map-append, length-map}
 use mathlib.Core.List.{append-nil}
-use Rattle.t1_shape.specs.Shapes.Shape.{T1}
 use Rattle.t1_shape.specs.Slots.{victim_of}
 use Rattle.t1_space.specs.Places.{is_io}
 use Rattle.t1_decode.specs.Words.{insn_of}
@@ -46,6 +45,7 @@ use Rattle.t1_core.specs.declared.plan.Plan.{Plan}
 use Rattle.t1_core.specs.Stores.{AreSent}
 use Rattle.t1_core.specs.Threads.{ThreadState, thread_need, next_phase, placed, unit_done, entry_phase, trapped, word_came, load_came, read_item, stored, op_for}
 use Rattle.t1_core.specs.Steps.{ThreadActed, moved, waits, if_empty, plan_look, has_room, request_of, asked, asked_fetch, asked_data, exec_fetch, exec_begin, exec_look, exec_plan}
+use Rattle.t1_packet.proofs.Caches.{ways_are}
 use Rattle.t1_core_rule.specs.Histories.{asked_by}
 use Rattle.t1_received.specs.Requests.{of_class, GoTo}
 use Rattle.t1_event.specs.Times.{at_of}
@@ -59,7 +59,7 @@ use Rattle.t1_core_rule.proofs.Pieces.{next_reads, entry_reads, next_asked, entr
 use Rattle.t1_core_rule.proofs.Asks.{below, op_fine, way_below, data_victim, read_kind}
 use Rattle.t1_core_rule.proofs.Moves.{IsMadeNow, IsFresh, IsReady, IsRight, IsMove, io_true, class_not, class_read, outs_same, same_move, entries_push}
 
-module _ (x : Asker) (blocks : x.ram % 65536 ≡ 0) (icache dcache : CacheState) (ic : IsCache Icache icache) (dc : IsCache Dcache dcache) (caches : Caches) (pointers : Cache → List ℕ)
+module _ (x : Asker) (blocks : x.ram % 65536 ≡ 0) (icache dcache : CacheState) (ic : IsCache x.chip Icache icache) (dc : IsCache x.chip Dcache dcache) (caches : Caches) (pointers : Cache → List ℕ)
     (s : Strand) (es : List Entry) (ts : List ℕ) (xs : List Item) (budget : ℕ) where
   abbrev pub at_phase : Phase → ThreadState
   at_phase p = record { strand = s; phase = p; stores = es; times = ts; items = xs; budget = budget }
@@ -103,12 +103,12 @@ module _ (x : Asker) (blocks : x.ram % 65536 ≡ 0) (icache dcache : CacheState)
 
   pub asked_move : (p q : Phase) (o : Op) (y : Item) → asked_of x.ram s p ≡ None → read_out x.number x.strand x.ram s (length xs) p ≡ []
       → read_out x.number x.strand x.ram s (length xs) q ≡ request_of x (length xs) o ∷ [] → asked_of x.ram s q ≡ Some (record { item = y; seen = x.time })
-      → is_store o ≡ false → IsAsked T1 x.ram o → IsRead y.kind → (IsWrite y.kind → ⊥) ⊎ (es ≡ []) → (Ready p → AskedRow T1 x.ram caches xs y x.time)
-      → ((cache : Cache) (line : ℕ) → filled_line cache o ≡ Some line → Ready p → asked_way o ≡ victim_of (layout T1 cache) (caches x.time cache) (pointers cache) line)
+      → is_store o ≡ false → IsAsked x.chip x.ram o → IsRead y.kind → (IsWrite y.kind → ⊥) ⊎ (es ≡ []) → (Ready p → AskedRow x.chip x.ram caches xs y x.time)
+      → ((cache : Cache) (line : ℕ) → filled_line cache o ≡ Some line → Ready p → asked_way o ≡ victim_of (layout x.chip cache) (caches x.time cache) (pointers cache) line)
       → Move p (asked x (at_phase p) o q)
   unfolding asked
   asked_move p q o y out reads goes asks load fine read free row way =
-      elim (cases_Bool (has_room x.room (op_dest T1 o))) [
+      elim (cases_Bool (has_room x.room (op_dest x.chip o))) [
         | inl e ↦ rw e (record {
           sent = λ f. f;
           good = λ g. g;
@@ -140,17 +140,17 @@ module _ (x : Asker) (blocks : x.ram % 65536 ≡ 0) (icache dcache : CacheState)
 
   -- ---- the begin of a unit
 
-  pub fetch_asked_row : (r : Ready phase.Fetch) → s.pc < x.ram → read_of icache s.pc 4 ≡ None → AskedRow T1 x.ram caches xs (fetch_item s.pc 0) x.time
+  pub fetch_asked_row : (r : Ready phase.Fetch) → s.pc < x.ram → read_of icache s.pc 4 ≡ None → AskedRow x.chip x.ram caches xs (fetch_item s.pc 0) x.time
   fetch_asked_row r inside e =
-      let e' : read_of (cache_with Icache (caches x.time Icache) (pointers Icache)) s.pc 4 ≡ None = subst (λ (c : CacheState). read_of c s.pc 4 ≡ None) r.icache_is e in
-      (inside, is_missing Icache (caches x.time Icache) (pointers Icache) (record (fetch_item s.pc 0) { how = Commit 0 x.time }) 4 e')
+      let e' : read_of (cache_with x.chip Icache (caches x.time Icache) (pointers Icache)) s.pc 4 ≡ None = subst (λ (c : CacheState). read_of c s.pc 4 ≡ None) r.icache_is e in
+      (inside, is_missing x.chip Icache (caches x.time Icache) (pointers Icache) (record (fetch_item s.pc 0) { how = Commit 0 x.time }) 4 e')
 
   pub fetch_victim : (cache : Cache) (line : ℕ) → filled_line cache (op.Fetch s.pc (victim_at icache s.pc)) ≡ Some line → Ready phase.Fetch
-      → victim_at icache s.pc ≡ victim_of (layout T1 cache) (caches x.time cache) (pointers cache) line
+      → victim_at icache s.pc ≡ victim_of (layout x.chip cache) (caches x.time cache) (pointers cache) line
   unfolding victim_at
   fetch_victim Icache line e r =
       let l : line_of Icache s.pc ≡ line = cc (e) in
-      ap (λ (c : CacheState). victim_at c s.pc) r.icache_is ∙ ap (λ (n : ℕ). victim_of (layout T1 Icache) (caches x.time Icache) (pointers Icache) n) l
+      ap (λ (c : CacheState). victim_at c s.pc) r.icache_is ∙ ap (λ (n : ℕ). victim_of (layout x.chip Icache) (caches x.time Icache) (pointers Icache) n) l
   fetch_victim Dcache line e r = let clash : ◌≡◌ {A = Option ℕ} None (Some line) = e in cc
 
   pub fetch_move : (word : Option ℕ) → read_of icache s.pc 4 ≡ word → (s.pc < x.ram) × (s.pc % 4 ≡ 0) → Move phase.Fetch (exec_fetch x icache (at_phase phase.Fetch) word)
@@ -160,17 +160,17 @@ module _ (x : Asker) (blocks : x.ram % 65536 ≡ 0) (icache dcache : CacheState)
       item_move phase.Fetch (phase.Have word) s y (Read y) refl refl refl refl (inl refl)
       (record { no_commit = λ n seen c. (let clash : Hit x.time ≡ Commit n seen = c in cc); time = inr refl })
       (λ r.
-      let e : read_of (cache_with Icache (caches x.time Icache) (pointers Icache)) s.pc 4 ≡ Some word = subst (λ (c : CacheState). read_of c s.pc 4 ≡ Some word) r.icache_is is in
+      let e : read_of (cache_with x.chip Icache (caches x.time Icache) (pointers Icache)) s.pc 4 ≡ Some word = subst (λ (c : CacheState). read_of c s.pc 4 ≡ Some word) r.icache_is is in
       record {
         allowed = record { read = refl; keeps = not_true; how = inl refl; free = refl };
-        placed = (fine.0, got_line Icache (caches x.time Icache) (pointers Icache) y r.icache_bytes (inr (inr (inl refl))) fine.1 e);
+        placed = (fine.0, got_line x.chip Icache (caches x.time Icache) (pointers Icache) y r.icache_bytes (inr (inr (inl refl))) fine.1 e);
         entries = entries_push xs y es r.entries;
         ways = λ v cache line h. absurd h;
       })
   fetch_move None is fine =
       let way : ℕ = victim_at icache s.pc in
       asked_move phase.Fetch (phase.OutFetch way x.time) (op.Fetch s.pc way) (fetch_item s.pc 0) refl refl refl refl refl
-      (record { size_is = inr (inr (inl refl)); aligned = fine.1 }, fine.0, way_below Icache icache s.pc ic (omega arith))
+      (record { size_is = inr (inr (inl refl)); aligned = fine.1 }, fine.0, way_below x.chip Icache icache s.pc ic (ways_are x.chip Icache).0)
       refl (inl not_true) (λ r. fetch_asked_row r fine.0 is) (λ cache line e r. fetch_victim cache line e r)
 
   pub begin_move : (due : Option ℕ) (can : Bool) → is_fetchable x.ram s.pc ≡ can → Move phase.Fetch (exec_begin x icache (at_phase phase.Fetch) due can)
@@ -184,7 +184,7 @@ module _ (x : Asker) (blocks : x.ram % 65536 ≡ 0) (icache dcache : CacheState)
 
   -- a load's value that is here
   pub load_move : (word a z v : ℕ) (how : How) → (how ≡ Hit x.time) ⊎ (how ≡ Forward x.time)
-      → (Ready (phase.Have word) → LoadRow T1 x.ram caches xs (length xs) (placed (load_item a z v) how) how)
+      → (Ready (phase.Have word) → LoadRow x.chip x.ram caches xs (length xs) (placed (load_item a z v) how) how)
       → Move (phase.Have word) (moved (load_came (at_phase (phase.Have word)) a z v how))
   unfolding load_came unit_done
   load_move word a z v how which row =
@@ -206,7 +206,7 @@ module _ (x : Asker) (blocks : x.ram % 65536 ≡ 0) (icache dcache : CacheState)
   need_fine word = need_shaped x.ram blocks s (insn_of word)
 
   pub data_move : (word addr : ℕ) (n : Need) → need_of s (insn_of word) x.ram ≡ n → IsReading n → ((a z : ℕ) → n ≡ need.Load a z → a ≡ addr)
-      → (IsWrite (read_item n 0).kind → ⊥) ⊎ (es ≡ []) → (Ready (phase.Have word) → AskedRow T1 x.ram caches xs (read_item n 0) x.time)
+      → (IsWrite (read_item n 0).kind → ⊥) ⊎ (es ≡ []) → (Ready (phase.Have word) → AskedRow x.chip x.ram caches xs (read_item n 0) x.time)
       → Move (phase.Have word) (asked_data x dcache (at_phase (phase.Have word)) addr)
   unfolding asked_data thread_need
   data_move word addr n e r load free row =
@@ -215,11 +215,11 @@ module _ (x : Asker) (blocks : x.ram % 65536 ≡ 0) (icache dcache : CacheState)
       let reading : IsReading m = subst (λ (k : Need). IsReading k) (sym e) r in
       let load' : (a z : ℕ) → m ≡ need.Load a z → a ≡ addr = subst (λ (k : Need). (a z : ℕ) → k ≡ need.Load a z → a ≡ addr) (sym e) load in
       let free' : (IsWrite (read_item m 0).kind → ⊥) ⊎ (es ≡ []) = subst (λ (k : Need). (IsWrite (read_item k 0).kind → ⊥) ⊎ (es ≡ [])) (sym e) free in
-      let row' : Ready (phase.Have word) → AskedRow T1 x.ram caches xs (read_item m 0) x.time =
-      subst (λ (k : Need). Ready (phase.Have word) → AskedRow T1 x.ram caches xs (read_item k 0) x.time) (sym e) row in
+      let row' : Ready (phase.Have word) → AskedRow x.chip x.ram caches xs (read_item m 0) x.time =
+      subst (λ (k : Need). Ready (phase.Have word) → AskedRow x.chip x.ram caches xs (read_item k 0) x.time) (sym e) row in
       asked_move (phase.Have word) (phase.OutData word way x.time) (op_for m way) (read_item m 0) refl refl refl refl (op_reads m way)
-      (op_fine x.ram m way reading (need_fine word) (way_below Dcache dcache addr dc (omega arith))) (read_kind m reading) free' row'
-      (λ cache line fills ready. data_victim dcache (caches x.time) pointers m addr load' reading cache line fills ready.dcache_is)
+      (op_fine x.chip x.ram m way reading (need_fine word) (way_below x.chip Dcache dcache addr dc (ways_are x.chip Dcache).0)) (read_kind m reading) free' row'
+      (λ cache line fills ready. data_victim x.chip dcache (caches x.time) pointers m addr load' reading cache line fills ready.dcache_is)
 
   -- where a load lies
   pub in_ram : (a z : ℕ) → IsShapedNeed x.ram (need.Load a z) → is_io a ≡ false → a < x.ram
@@ -238,20 +238,20 @@ module _ (x : Asker) (blocks : x.ram % 65536 ≡ 0) (icache dcache : CacheState)
       let f = load_fine word a z e in
       load_move word a z v (Hit x.time) (inl refl)
       (λ r.
-      let is' : read_of (cache_with Dcache (caches x.time Dcache) (pointers Dcache)) a z ≡ Some v = subst (λ (c : CacheState). read_of c a z ≡ Some v) r.dcache_is is in (
+      let is' : read_of (cache_with x.chip Dcache (caches x.time Dcache) (pointers Dcache)) a z ≡ Some v = subst (λ (c : CacheState). read_of c a z ≡ Some v) r.dcache_is is in (
         in_ram a z f off,
         none_overlaps _ xs es x.time r.kept.orderly r.entries (placed (load_item a z v) (Hit x.time)) clear,
-        got_line Dcache (caches x.time Dcache) (pointers Dcache) (placed (load_item a z v) (Hit x.time)) r.dcache_bytes f.0.size_is f.0.aligned is',
+        got_line x.chip Dcache (caches x.time Dcache) (pointers Dcache) (placed (load_item a z v) (Hit x.time)) r.dcache_bytes f.0.size_is f.0.aligned is',
       ))
   look_move word a z None is e off clear =
       let f = load_fine word a z e in
       data_move word a (need.Load a z) e tt (λ b y q. (let g : a ≡ b = cc (q) in sym g)) (inl not_true)
       (λ r.
-      let is' : read_of (cache_with Dcache (caches x.time Dcache) (pointers Dcache)) a z ≡ None = subst (λ (c : CacheState). read_of c a z ≡ None) r.dcache_is is in
+      let is' : read_of (cache_with x.chip Dcache (caches x.time Dcache) (pointers Dcache)) a z ≡ None = subst (λ (c : CacheState). read_of c a z ≡ None) r.dcache_is is in
       inl (
         in_ram a z f off,
         none_overlaps _ xs es x.time r.kept.orderly r.entries (record (load_item a z 0) { how = Commit 0 x.time }) clear,
-        is_missing Dcache (caches x.time Dcache) (pointers Dcache) (record (load_item a z 0) { how = Commit 0 x.time }) z is',
+        is_missing x.chip Dcache (caches x.time Dcache) (pointers Dcache) (record (load_item a z 0) { how = Commit 0 x.time }) z is',
       ))
 
   pub plan_look_move : (word a z : ℕ) (l : Look) → look_of es a z ≡ l → need_of s (insn_of word) x.ram ≡ need.Load a z → is_io a ≡ false
@@ -270,17 +270,17 @@ module _ (x : Asker) (blocks : x.ram % 65536 ≡ 0) (icache dcache : CacheState)
 
   -- ---- stores and barriers
 
-  pub stored_move : (word a z v : ℕ) → IsGoodEntry x.ram (record { item = length xs; addr = a; size = z; value = v; sent = false; dest = dest_of T1 a }) → length es < 8
-      → Move (phase.Have word) (moved (stored (at_phase (phase.Have word)) a z v))
+  pub stored_move : (word a z v : ℕ) → IsGoodEntry x.chip x.ram (record { item = length xs; addr = a; size = z; value = v; sent = false; dest = dest_of x.chip a }) → length es < 8
+      → Move (phase.Have word) (moved (stored x.chip (at_phase (phase.Have word)) a z v))
   unfolding stored unit_done
   stored_move word a z v good room =
       let y : Item = store_item a z v in
-      let e : Entry = record { item = length xs; addr = a; size = z; value = v; sent = false; dest = dest_of T1 a } in
+      let e : Entry = record { item = length xs; addr = a; size = z; value = v; sent = false; dest = dest_of x.chip a } in
       let u : Strand = after_of s (insn_of word) 0 in
       let t' : ThreadState = record { strand = u; phase = next_phase u.units budget; stores = es ++ e ∷ []; times = ts; items = xs ++ y ∷ []; budget = budget } in
       record {
         sent = λ f. sent_push es ts e refl f;
-        good = λ g. good_push x.ram es e good g;
+        good = λ g. good_push x.chip x.ram es e good g;
         fresh = λ r h. absurd h;
         outs = λ f b. by t' e f b refl refl (next_reads x.number x.strand x.ram u (length (xs ++ y ∷ [])) u.units budget);
         keeps = λ k w h. push_has xs y k w h;
@@ -288,7 +288,7 @@ module _ (x : Asker) (blocks : x.ram % 65536 ≡ 0) (icache dcache : CacheState)
           | inl p ↦ inl p.1
           | inr p ↦ inr (subst (λ (v : Item). IsMadeNow x v) p.1 (record { no_commit = λ m seen c. (let clash : Unplaced ≡ Commit m seen = c in cc); time = inl refl }))
         ];
-        way = λ f d. (d.0, subst (λ (rs : List RequestData). GoTo T1 d.0 rs) (sym (stores_push x.number x.strand es ts e f)) d.1);
+        way = λ f d. (d.0, subst (λ (rs : List RequestData). GoTo x.chip d.0 rs) (sym (stores_push x.number x.strand es ts e f)) d.1);
         event = Some (Push y);
         is = rw (next_asked x.ram u u.units budget, map-append (λ (d : Entry). d.item) es (e ∷ [])) refl;
         right = λ r. record {

@@ -1,8 +1,8 @@
 -- Exec and drain, where the packets are proper.
+use Rattle.t1_shape.specs.Shapes.{Shape}
 use Rattle.std.proofs.Common.{◌≡◌, ℕ, ◌%◌, List, [], ◌++◌, Option, Some, None, refl, sym, subst}
 use Rattle.std.specs.List.{slice_get}
 use mathlib.Core.List.{append-nil}
-use Rattle.t1_shape.specs.Shapes.Shape.{T1}
 use Rattle.t1_state.specs.declared.strand.Strand.{Strand}
 use Rattle.t1_packet.specs.declared.cache.Cache.{Cache}
 use Rattle.t1_packet.specs.Data.{RequestData}
@@ -28,10 +28,10 @@ module _ (w : Setup) (core : ℕ) (h : History) (i room : ℕ) (whole : w.config
   x = asker h.core i room
 
   abbrev caches : Caches
-  caches = slots_by T1 h.core.number h.received
+  caches = slots_by h.core.chip h.core.number h.received
 
   abbrev pointers : Cache → List ℕ
-  pointers = λ cache. pointers_by T1 h.received h.core.time cache
+  pointers = λ cache. pointers_by h.core.chip h.received h.core.time cache
 
   blocks : h.core.ram % 65536 ≡ 0
   blocks = subst (λ (n : ℕ). n % 65536 ≡ 0) (sym s.ram) whole
@@ -59,7 +59,7 @@ module _ (w : Setup) (core : ℕ) (h : History) (i room : ℕ) (whole : w.config
       let a : ThreadDrained = thread_drain x t in
       let was = s.threads i t e in
       moved_fitting w core h i room t a.thread e (drained_by a.did) s f starts replayed
-      (drain_move x h.core.icache h.core.dcache caches pointers t (subst (λ (n : ℕ). AreGoodEntries n t.stores) (sym s.ram) was.good) was.sent)
+      (drain_move x h.core.icache h.core.dcache caches pointers t (subst (λ (v : Shape). AreGoodEntries v h.core.ram t.stores) (sym s.chip) (subst (λ (n : ℕ). AreGoodEntries w.config.chip n t.stores) (sym s.ram) was.good)) was.sent)
       (drain_budget x h.core.icache h.core.dcache t)
 
   pub drain_fitting : IsFitting w (after_drain h i room)

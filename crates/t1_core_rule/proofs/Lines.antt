@@ -1,9 +1,9 @@
 -- What a cache answers, in the words of the table of places.
+use Rattle.t1_shape.specs.Shapes.{Shape}
 use Rattle.std.proofs.Common.{◌≡◌, ℕ, ◌+◌, ◌-◌, ◌%◌, zero, suc, List, [], ◌∷◌, get_or, Option, Some, None, refl, ap, sym, ◌∙◌, subst, arith}
 use Rattle.std.specs.List.{slice_get}
 use Rattle.t1_num.specs.Memory.{IsSize, byte_of, number_at}
 use Rattle.t1_num.proofs.MemoryLaws.{byte_of_number_at}
-use Rattle.t1_shape.specs.Shapes.Shape.{T1}
 use Rattle.t1_shape.specs.Slots.{Line, tag, tags_of, at_slot, slot_of, first_slot}
 use Rattle.t1_shape.proofs.Slots.{Found, slot_some}
 use Rattle.t1_packet.specs.declared.cache.Cache.{Cache}
@@ -20,15 +20,15 @@ tag_at [] k = refl
 tag_at (s ∷ slots) zero = refl
 tag_at (s ∷ slots) (suc k) = tag_at slots k
 
-module _ (cache : Cache) (slots : List (Option Line)) (pointers : List ℕ) (addr size : ℕ) where
+module _ (chip : Shape) (cache : Cache) (slots : List (Option Line)) (pointers : List ℕ) (addr size : ℕ) where
   abbrev c : CacheState
-  c = cache_with cache slots pointers
+  c = cache_with chip cache slots pointers
 
   abbrev slot : Option ℕ
-  slot = slot_of (layout T1 cache) (tags_of slots) (line_of cache addr)
+  slot = slot_of (layout chip cache) (tags_of slots) (line_of cache addr)
 
   abbrev first : ℕ
-  first = first_slot (layout T1 cache) (line_of cache addr)
+  first = first_slot (layout chip cache) (line_of cache addr)
 
   -- what a look-up that found a number says
   pub record IsRead (value : ℕ) : Type 0 where
@@ -40,7 +40,7 @@ module _ (cache : Cache) (slots : List (Option Line)) (pointers : List ℕ) (add
 
   in_slot : (value j : ℕ) → slot ≡ Some j → (o : Option Line) → get_or slots j None ≡ o → number_at (bytes_of o) (addr % width cache) size ≡ value → IsRead value
   in_slot value j s None e g =
-      let t = (slot_some (layout T1 cache) (tags_of slots) (line_of cache addr) j s).is in
+      let t = (slot_some (layout chip cache) (tags_of slots) (line_of cache addr) j s).is in
       let n : tag None ≡ Some (line_of cache addr) = ap tag (sym e) ∙ (sym (tag_at slots j) ∙ t) in
       let clash : ◌≡◌ {A = Option ℕ} None (Some (line_of cache addr)) = n in cc
   in_slot value j s (Some l) e g = record { line = l; at = j; slot_is = s; line_is = e; value_is = g }
@@ -49,7 +49,7 @@ module _ (cache : Cache) (slots : List (Option Line)) (pointers : List ℕ) (add
   unfolding get_of
   by_slot value None s e = let clash : ◌≡◌ {A = Option ℕ} None (Some value) = e in cc
   by_slot value (Some j) s e =
-      let found : Found (tags_of slots) (line_of cache addr) first (layout T1 cache).ways j = slot_some (layout T1 cache) (tags_of slots) (line_of cache addr) j s in
+      let found : Found (tags_of slots) (line_of cache addr) first (layout chip cache).ways j = slot_some (layout chip cache) (tags_of slots) (line_of cache addr) j s in
       let above = found.above in
       let at : first + (j - first) ≡ j = omega (arith, above) in
       let q : number_at (bytes_of (get_or slots (first + (j - first)) None)) (addr % width cache) size ≡ value = cc (e) in
@@ -74,10 +74,10 @@ line_there [] k line e = let clash : ◌≡◌ {A = Option Line} None (Some line
 line_there (s ∷ slots) zero line e = ap (λ (o : Option Line). Some o) e
 line_there (s ∷ slots) (suc k) line e = line_there slots k line e
 
-pub got_line : (cache : Cache) (slots : List (Option Line)) (pointers : List ℕ) (x : Item) → AreByteLines slots → IsSize x.size → x.addr % x.size ≡ 0
-    → read_of (cache_with cache slots pointers) x.addr x.size ≡ Some x.got → GotLine T1 cache slots x
-got_line cache slots pointers x bytes size aligned e =
-    let r = read_found cache slots pointers x.addr x.size x.got e in
+pub got_line : (chip : Shape) (cache : Cache) (slots : List (Option Line)) (pointers : List ℕ) (x : Item) → AreByteLines slots → IsSize x.size → x.addr % x.size ≡ 0
+    → read_of (cache_with chip cache slots pointers) x.addr x.size ≡ Some x.got → GotLine chip cache slots x
+got_line chip cache slots pointers x bytes size aligned e =
+    let r = read_found chip cache slots pointers x.addr x.size x.got e in
     record {
       line = r.line;
       present = ap (at_slot slots) r.slot_is ∙ r.line_is;
@@ -87,6 +87,6 @@ got_line cache slots pointers x bytes size aligned e =
           ∙ ap (λ (i : ℕ). get_or r.line.bytes i 0) (place_in_line cache x.addr x.size a size aligned cov.0 cov.1));
     }
 
-pub is_missing : (cache : Cache) (slots : List (Option Line)) (pointers : List ℕ) (x : Item) (size : ℕ)
-    → read_of (cache_with cache slots pointers) x.addr size ≡ None → IsMissing T1 cache slots x
-is_missing cache slots pointers x size e = read_none cache slots pointers x.addr size e
+pub is_missing : (chip : Shape) (cache : Cache) (slots : List (Option Line)) (pointers : List ℕ) (x : Item) (size : ℕ)
+    → read_of (cache_with chip cache slots pointers) x.addr size ≡ None → IsMissing chip cache slots x
+is_missing chip cache slots pointers x size e = read_none chip cache slots pointers x.addr size e

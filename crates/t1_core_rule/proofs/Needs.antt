@@ -2,7 +2,6 @@
 use Rattle.std.proofs.Common.{◌≡◌, ◌⊎◌, ◌<◌, ℕ, ◌%◌, ◌==◌, true, false, List, [], ◌∷◌, ◌++◌, length, refl, ap, sym, ◌∙◌, subst, inl, inr, nat_lt, bit_and}
 use Rattle.std.proofs.lemmas.Bool.{cases_Bool, eqb-true, ltb-true}
 use mathlib.Core.List.{append-nil}
-use Rattle.t1_shape.specs.Shapes.Shape.{T1}
 use Rattle.t1_space.specs.Places.{is_io}
 use Rattle.t1_decode.specs.Words.{insn_of}
 use Rattle.t1_state.specs.declared.strand.Strand.{Strand}
@@ -48,7 +47,7 @@ use Rattle.t1_core_rule.proofs.Execs as execs
 use Rattle.t1_core_rule.proofs.Asks.{below}
 use Rattle.t1_core_rule.proofs.Pieces.{next_asked, next_reads}
 
-module _ (x : Asker) (blocks : x.ram % 65536 ≡ 0) (icache dcache : CacheState) (ic : IsCache Icache icache) (dc : IsCache Dcache dcache) (caches : Caches) (pointers : Cache → List ℕ)
+module _ (x : Asker) (blocks : x.ram % 65536 ≡ 0) (icache dcache : CacheState) (ic : IsCache x.chip Icache icache) (dc : IsCache x.chip Dcache dcache) (caches : Caches) (pointers : Cache → List ℕ)
     (s : Strand) (es : List Entry) (ts : List ℕ) (xs : List Item) (budget : ℕ) where
   abbrev at_phase : Phase → ThreadState
   at_phase p = record { strand = s; phase = p; stores = es; times = ts; items = xs; budget = budget }
@@ -82,7 +81,7 @@ module _ (x : Asker) (blocks : x.ram % 65536 ≡ 0) (icache dcache : CacheState)
       ]
 
   none_are_held : (word : ℕ) → es ≡ [] → Ready (phase.Have word) → NoneHeldIn xs (length xs) x.time
-  none_are_held word none r = none_held (one_destination T1) xs es x.time r.kept.orderly none
+  none_are_held word none r = none_held (one_destination x.chip) xs es x.time r.kept.orderly none
 
   need_move : (word : ℕ) (n : Need) → need_of s (insn_of word) x.ram ≡ n → Move (phase.Have word) (exec_plan x dcache (at_phase (phase.Have word)) (plan_of es n))
   unfolding unit_done halted
@@ -103,7 +102,7 @@ module _ (x : Asker) (blocks : x.ram % 65536 ≡ 0) (icache dcache : CacheState)
       execs.empty_move x blocks icache dcache ic dc caches pointers s es ts xs budget word es plan.Flush (λ none. fence_move word flush_item (inr refl) (λ b. none) refl)
   need_move word (need.Store a z v) e =
       let f : IsShapedNeed x.ram (need.Store a z v) = subst (λ (n : Need). IsShapedNeed x.ram n) e (execs.need_fine x blocks icache dcache ic dc caches pointers s es ts xs budget word) in
-      let good : IsGoodEntry x.ram (record { item = length xs; addr = a; size = z; value = v; sent = false; dest = dest_of T1 a }) = record {
+      let good : IsGoodEntry x.chip x.ram (record { item = length xs; addr = a; size = z; value = v; sent = false; dest = dest_of x.chip a }) = record {
         asked = (record { size_is = f.0.size_is; aligned = f.0.aligned }, elim f.1 [ inl l ↦ inl (below x.ram a z f.0.size_is l) | inr io ↦ inr io ]);
         dest = refl;
       } in
@@ -125,7 +124,7 @@ module _ (x : Asker) (blocks : x.ram % 65536 ≡ 0) (icache dcache : CacheState)
       (λ none. execs.data_move x blocks icache dcache ic dc caches pointers s es ts xs budget word a (need.Atomic a z o) e tt
       (λ b y q. absurd (let clash : need.Atomic a z o ≡ need.Load b y = q in cc)) (inr none) (λ r. atomic_row o inside (none_are_held word none r)))
     where
-      atomic_row : (o : AtomicOp) → a < x.ram → NoneHeldIn xs (length xs) x.time → AskedRow T1 x.ram caches xs (read_item (need.Atomic a z o) 0) x.time
+      atomic_row : (o : AtomicOp) → a < x.ram → NoneHeldIn xs (length xs) x.time → AskedRow x.chip x.ram caches xs (read_item (need.Atomic a z o) 0) x.time
       atomic_row (Swap new) inside h = (inside, h)
       atomic_row (Cas expect new) inside h = (inside, h)
 
@@ -137,7 +136,7 @@ module _ (x : Asker) (blocks : x.ram % 65536 ≡ 0) (icache dcache : CacheState)
   phase_move (phase.OutData word way seen) = execs.stays x blocks icache dcache ic dc caches pointers s es ts xs budget (phase.OutData word way seen) wait.Reply
   phase_move (phase.Ended e) = execs.stays x blocks icache dcache ic dc caches pointers s es ts xs budget (phase.Ended e) wait.Ended
 
-pub exec_move : (x : Asker) → x.ram % 65536 ≡ 0 → (icache dcache : CacheState) → IsCache Icache icache → IsCache Dcache dcache → (caches : Caches) (pointers : Cache → List ℕ) (t : ThreadState)
+pub exec_move : (x : Asker) → x.ram % 65536 ≡ 0 → (icache dcache : CacheState) → IsCache x.chip Icache icache → IsCache x.chip Dcache dcache → (caches : Caches) (pointers : Cache → List ℕ) (t : ThreadState)
     → IsMove x icache dcache caches pointers t (thread_exec x icache dcache t).thread (asked_by (thread_exec x icache dcache t).did)
 unfolding thread_exec
 exec_move x blocks icache dcache ic dc caches pointers t = phase_move x blocks icache dcache ic dc caches pointers t.strand t.stores t.times t.items t.budget t.phase

@@ -32,9 +32,9 @@ whole_more (first ∷ calls) call lines line = (lines.0, whole_more calls call l
 
 -- the rule after one call more
 pub rule_goes_on : (w : Setup) (core : ℕ) (calls : List Call) (call : Call) → IsWhole w → 0 < w.config.budget → AreWhole calls → IsWholeCall call
-    → IsCore w core (part_of w.shape (after_call (history_of w core calls) call))
+    → IsCore w core (part_of w.config.chip (after_call (history_of w core calls) call))
 rule_goes_on w core calls call whole some lines line =
-    subst (λ (h : History). IsCore w core (part_of w.shape h)) (calls_more (begun w core) calls call)
+    subst (λ (h : History). IsCore w core (part_of w.config.chip h)) (calls_more (begun w core) calls call)
     (cores_keep_their_rule w core (calls ++ call ∷ []) whole some (whole_more calls call lines line))
 
 -- ---- histories, where a machine keeps no calls but that there are some
@@ -52,8 +52,8 @@ history_goes_on w core h call line g = record {
 }
 
 -- a history keeps the rule
-pub history_rule : (w : Setup) (core : ℕ) (h : History) → IsWhole w → 0 < w.config.budget → IsHistory w core h → IsCore w core (part_of w.shape h)
-history_rule w core h whole some g = subst (λ (k : History). IsCore w core (part_of w.shape k)) g.is (cores_keep_their_rule w core g.calls whole some g.whole)
+pub history_rule : (w : Setup) (core : ℕ) (h : History) → IsWhole w → 0 < w.config.budget → IsHistory w core h → IsCore w core (part_of w.config.chip h)
+history_rule w core h whole some g = subst (λ (k : History). IsCore w core (part_of w.config.chip k)) g.is (cores_keep_their_rule w core g.calls whole some g.whole)
 
 -- and is steady, whatever packets came
 pub history_is_steady : (w : Setup) (core : ℕ) (h : History) → IsWhole w → IsHistory w core h → IsSteady w core h

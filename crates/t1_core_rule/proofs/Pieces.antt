@@ -1,4 +1,5 @@
 -- Pieces of what an exec does to a strand.
+use Rattle.t1_shape.specs.Shapes.{Shape}
 use Rattle.std.proofs.Common.{◌≡◌, ◌<◌, ℕ, ◌==◌, false, List, [], ◌∷◌, ◌++◌, None, refl, ap, inl, inr, arith}
 use Rattle.std.proofs.lemmas.Bool.{cases_Bool}
 use Rattle.t1_num.specs.Memory.{IsSize}
@@ -40,9 +41,9 @@ sent_push [] (t ∷ ts) e q f = absurd f
 sent_push (d ∷ ds) [] e q f = (f.0, sent_push ds [] e q f.1)
 sent_push (d ∷ ds) (t ∷ ts) e q f = (f.0, sent_push ds ts e q f.1)
 
-pub good_push : (ram : ℕ) (es : List Entry) (e : Entry) → IsGoodEntry ram e → AreGoodEntries ram es → AreGoodEntries ram (es ++ e ∷ [])
-good_push ram [] e q g = (q, tt)
-good_push ram (d ∷ ds) e q g = (g.0, good_push ram ds e q g.1)
+pub good_push : (chip : Shape) (ram : ℕ) (es : List Entry) (e : Entry) → IsGoodEntry chip ram e → AreGoodEntries chip ram es → AreGoodEntries chip ram (es ++ e ∷ [])
+good_push chip ram [] e q g = (q, tt)
+good_push chip ram (d ∷ ds) e q g = (g.0, good_push chip ram ds e q g.1)
 
 pub stores_push : (core strand : ℕ) (es : List Entry) (ts : List ℕ) (e : Entry) → AreSent es ts → stores_out core strand (es ++ e ∷ []) ts ≡ stores_out core strand es ts
 stores_push core strand [] [] e f = refl

@@ -2,7 +2,6 @@
 use Rattle.std.proofs.Common.{◌≡◌, ◌<◌, ℕ, ◌%◌, ◌==◌, Bool, true, false, List, length, map, drop, Option, Some, None, refl, ap, sym, ◌∙◌, subst, inl, inr}
 use Rattle.std.specs.List.{slice_get}
 use Rattle.t1_shape.specs.Shapes.{Shape}
-use Rattle.t1_shape.specs.Shapes.Shape.{T1}
 use Rattle.t1_decode.specs.Words.{insn_of}
 use Rattle.t1_state.specs.declared.strand.Strand.{Strand}
 use Rattle.t1_exec.specs.declared.need.Need.{Need}
@@ -122,10 +121,14 @@ read_distinct core strand ram s k (phase.Ended e) = tt
 
 module _ (config : Config) (image : Image) (core : ℕ) (h : History) where
   abbrev w : Setup
-  w = record { shape = T1; config = config; image = image }
+  w = record { config = config; image = image }
+
+  -- the same with the core's chip, which is the configuration's
+  abbrev own : Setup
+  own = record { config = record config { chip = h.core.chip }; image = image }
 
   abbrev p : CorePart
-  p = part_of T1 h
+  p = part_of h.core.chip h
 
   module _ (s : IsSteady w core h) (f : IsFitting w h) (replayed : IsReplayed (starts_of config h.core.number image.entry) h.core) where
     abbrev number : ℕ
@@ -140,24 +143,24 @@ module _ (config : Config) (image : Image) (core : ℕ) (h : History) where
     abbrev start : ℕ → Strand
     start = starts_of config number image.entry
 
-    thread : (i : ℕ) (t : ThreadState) → slice_get threads i ≡ Some t → IsFittingThread number ram h.core.time config.budget h.received i t
+    thread : (i : ℕ) (t : ThreadState) → slice_get threads i ≡ Some t → IsFittingThread h.core.chip number ram h.core.time config.budget h.received i t
     thread i t e = f.threads i t e
 
     -- what is unanswered is `rest`
-    pending : (d : ℕ) → unanswered T1 number p.sent p.received d ≡ f.rest d
-    pending d = ap (λ (rs : List RequestData). drop (length (answered T1 number d h.received)) rs) (sym (f.are d)) ∙ drop_front (answered T1 number d h.received) (f.rest d)
+    pending : (d : ℕ) → unanswered h.core.chip number p.sent p.received d ≡ f.rest d
+    pending d = ap (λ (rs : List RequestData). drop (length (answered h.core.chip number d h.received)) rs) (sym (f.are d)) ∙ drop_front (answered h.core.chip number d h.received) (f.rest d)
 
-    in_rest : (d : ℕ) (r : RequestData) → IsIn r (unanswered T1 number p.sent p.received d) → IsIn r (f.rest d)
+    in_rest : (d : ℕ) (r : RequestData) → IsIn r (unanswered h.core.chip number p.sent p.received d) → IsIn r (f.rest d)
     in_rest d r g = subst (λ (rs : List RequestData). IsIn r rs) (pending d) g
 
-    rest_in : (d : ℕ) (r : RequestData) → IsIn r (f.rest d) → IsIn r (unanswered T1 number p.sent p.received d)
+    rest_in : (d : ℕ) (r : RequestData) → IsIn r (f.rest d) → IsIn r (unanswered h.core.chip number p.sent p.received d)
     rest_in d r g = subst (λ (rs : List RequestData). IsIn r rs) (sym (pending d)) g
 
     out_is : (d : ℕ) (r : RequestData) → IsIn r (f.rest d) → IsOut p r
     out_is d r g =
         let i = r.strand in
         let b = is_store r.op in
-        let q = pending_out T1 i b d r (f.rest d) (outs_at number i ram b (slice_get threads i)) (f.out i b d) (own_class r) g in
+        let q = pending_out h.core.chip i b d r (f.rest d) (outs_at number i ram b (slice_get threads i)) (f.out i b d) (own_class r) g in
         by (slice_get threads i) refl b refl q.0
       where
         by : (o : Option ThreadState) → slice_get threads r.strand ≡ o → (b : Bool) → is_store r.op ≡ b → IsIn r (outs_at number r.strand ram b o) → IsOut p r
@@ -167,28 +170,28 @@ module _ (config : Config) (image : Image) (core : ℕ) (h : History) where
         by (Some t) e false eb x =
             inl (ap (λ (o : Option ThreadState). standing_at number r.strand ram o) e ∙ read_standing number r.strand ram t.strand (length t.items) t.phase r x)
 
-    awaited_is : (i : ℕ) (r : RequestData) → p.standing i ≡ Out r → IsIn r (f.rest (op_dest T1 r.op))
+    awaited_is : (i : ℕ) (r : RequestData) → p.standing i ≡ Out r → IsIn r (f.rest (op_dest h.core.chip r.op))
     awaited_is i r e = by (slice_get threads i) refl
       where
-        by : (o : Option ThreadState) → slice_get threads i ≡ o → IsIn r (f.rest (op_dest T1 r.op))
+        by : (o : Option ThreadState) → slice_get threads i ≡ o → IsIn r (f.rest (op_dest h.core.chip r.op))
         by None x = let clash : Fetching ≡ Out r = sym (ap (λ (o : Option ThreadState). standing_at number i ram o) x) ∙ e in cc
         by (Some t) x =
             let st : standing_of number i ram t.strand (length t.items) t.phase ≡ Out r = sym (ap (λ (o : Option ThreadState). standing_at number i ram o) x) ∙ e in
             let g : IsIn r (outs number i ram false t) = standing_read number i ram t.strand (length t.items) t.phase r st in
-            out_pending T1 i false r (f.rest (op_dest T1 r.op)) (outs number i ram false t)
-            (f.out i false (op_dest T1 r.op) ∙ ap (λ (o : Option ThreadState). sent_to T1 (op_dest T1 r.op) (outs_at number i ram false o)) x) g
+            out_pending h.core.chip i false r (f.rest (op_dest h.core.chip r.op)) (outs number i ram false t)
+            (f.out i false (op_dest h.core.chip r.op) ∙ ap (λ (o : Option ThreadState). sent_to h.core.chip (op_dest h.core.chip r.op) (outs_at number i ram false o)) x) g
 
-    stored_is : (i : ℕ) (r : RequestData) → IsIn r (p.sending i) → IsIn r (f.rest (op_dest T1 r.op))
+    stored_is : (i : ℕ) (r : RequestData) → IsIn r (p.sending i) → IsIn r (f.rest (op_dest h.core.chip r.op))
     stored_is i r g = by (slice_get threads i) refl g
       where
-        by : (o : Option ThreadState) → slice_get threads i ≡ o → IsIn r (sending_at number i o) → IsIn r (f.rest (op_dest T1 r.op))
+        by : (o : Option ThreadState) → slice_get threads i ≡ o → IsIn r (sending_at number i o) → IsIn r (f.rest (op_dest h.core.chip r.op))
         by None x y = absurd y
         by (Some t) x y =
-            out_pending T1 i true r (f.rest (op_dest T1 r.op)) (outs number i ram true t)
-            (f.out i true (op_dest T1 r.op) ∙ ap (λ (o : Option ThreadState). sent_to T1 (op_dest T1 r.op) (outs_at number i ram true o)) x) y
+            out_pending h.core.chip i true r (f.rest (op_dest h.core.chip r.op)) (outs number i ram true t)
+            (f.out i true (op_dest h.core.chip r.op) ∙ ap (λ (o : Option ThreadState). sent_to h.core.chip (op_dest h.core.chip r.op) (outs_at number i ram true o)) x) y
 
     rest_distinct : (d : ℕ) → AreDistinct (f.rest d)
-    rest_distinct d = distinct_classes (f.rest d) (λ i b. subst (λ (rs : List RequestData). AreDistinct rs) (sym (f.out i b d)) (distinct_filter (λ (q : RequestData). op_dest T1 q.op == d) (outs_at number i ram b (slice_get threads i)) (by i b (slice_get threads i) refl)))
+    rest_distinct d = distinct_classes (f.rest d) (λ i b. subst (λ (rs : List RequestData). AreDistinct rs) (sym (f.out i b d)) (distinct_filter (λ (q : RequestData). op_dest h.core.chip q.op == d) (outs_at number i ram b (slice_get threads i)) (by i b (slice_get threads i) refl)))
       where
         by : (i : ℕ) (b : Bool) (o : Option ThreadState) → slice_get threads i ≡ o → AreDistinct (outs_at number i ram b o)
         by i b None e = tt
@@ -220,28 +223,28 @@ module _ (config : Config) (image : Image) (core : ℕ) (h : History) where
 
     -- a store that is out was sent when the earlier stores to other destinations were done
     out_is_in_order : (i j : ℕ) (r : RequestData) (x : Item) → IsIn r (p.sending i) → j < r.item → HasItem (strand_items p i) j x → x.kind ≡ kind.Store
-        → LetsSend T1 (op_dest T1 r.op) r.seen x
+        → LetsSend h.core.chip (op_dest h.core.chip r.op) r.seen x
     out_is_in_order i j r x g lt g_x sx = (let q = stands threads i j x g_x in
         by q.thread q.at q.has (subst (λ (o : Option ThreadState). IsIn r (sending_at number i o)) q.at g))
       where
-        by : (t : ThreadState) → slice_get threads i ≡ Some t → HasItem t.items j x → IsIn r (stores_out number i t.stores t.times) → LetsSend T1 (op_dest T1 r.op) r.seen x
+        by : (t : ThreadState) → slice_get threads i ≡ Some t → HasItem t.items j x → IsIn r (stores_out number i t.stores t.times) → LetsSend h.core.chip (op_dest h.core.chip r.op) r.seen x
         by t e has out =
             let f_t = thread i t e in
-            let o = out_store number i t.items h.core.time t.stores t.times r f_t.kept.sent out in
+            let o = out_store h.core.chip number i t.items h.core.time t.stores t.times r f_t.kept.sent out in
             let b = entry_in t.items t.stores o.entry f_t.entries o.among in
             let below : j < o.entry.item = subst (λ (q : RequestData). j < q.item) o.is lt in
-            let lets : LetsSend T1 (dest_of T1 b.item.addr) r.seen x = sent_stores_keep_order T1 t.items h.core.time j o.entry.item r.seen x b.item o.well below has b.has sx in
-            let there : op_dest T1 r.op ≡ dest_of T1 b.item.addr = ap (λ (q : RequestData). op_dest T1 q.op) o.is ∙ ap (λ (a : ℕ). dest_of T1 a) (sym b.addr) in
-            subst (λ (d : ℕ). LetsSend T1 d r.seen x) (sym there) lets
+            let lets : LetsSend h.core.chip (dest_of h.core.chip b.item.addr) r.seen x = sent_stores_keep_order h.core.chip t.items h.core.time j o.entry.item r.seen x b.item o.well below has b.has sx in
+            let there : op_dest h.core.chip r.op ≡ dest_of h.core.chip b.item.addr = ap (λ (q : RequestData). op_dest h.core.chip q.op) o.is ∙ ap (λ (a : ℕ). dest_of h.core.chip a) (sym b.addr) in
+            subst (λ (d : ℕ). LetsSend h.core.chip d r.seen x) (sym there) lets
 
-    rule : KeepsRule w number p
+    rule : KeepsRule own number p
     rule = record {
       placed = λ i k index seen x g how. (let q = stands threads i k x g in (thread i q.thread q.at).came k index seen x q.has how);
       replies = λ packet reply g is. (let m = f.replies packet reply g is in
           record { item = m.item; has = there threads reply.strand reply.item m.item m.thread m.has_thread m.has; access = m.access; how = m.how });
       out = λ d r g. out_is d r (in_rest d r g);
-      awaited = λ i r e. rest_in (op_dest T1 r.op) r (awaited_is i r e);
-      stored = λ i r g. rest_in (op_dest T1 r.op) r (stored_is i r g);
+      awaited = λ i r e. rest_in (op_dest h.core.chip r.op) r (awaited_is i r e);
+      stored = λ i r g. rest_in (op_dest h.core.chip r.op) r (stored_is i r g);
       distinct = λ d. subst (λ (rs : List RequestData). AreDistinct rs) (sym (pending d)) (rest_distinct d);
       reads = λ i k x g read. (let q = stands threads i k x g in done_placed h.core.time x.how ((thread i q.thread q.at).kept.orderly.reads k x q.has read));
       stores = λ i k x g store how. (let q = stands threads i k x g in
@@ -250,37 +253,39 @@ module _ (config : Config) (image : Image) (core : ℕ) (h : History) where
             | inr y ↦ subst (λ (o : Option ThreadState). IsIn k (waiting_at o)) (sym q.at) y
           ]);
       waits = held_is;
-      ascends = λ d. ascends_to 0 d h.sent s.ascends;
+      ascends = λ d. ascends_to h.core.chip 0 d h.sent s.ascends;
       times = λ i k x g. (let q = stands threads i k x g in (thread i q.thread q.at).times k x q.has);
-      sent_times = λ d r g. s.sent_times r (filter_in (λ (q : RequestData). op_dest T1 q.op == d) r h.sent g).0;
+      sent_times = λ d r g. s.sent_times r (filter_in (λ (q : RequestData). op_dest h.core.chip q.op == d) r h.sent g).0;
       order = λ i j k x y lt g_x g_y placed waits. (let q = stands threads i j x g_x in let v = stands threads i k y g_y in
           let same : v.thread ≡ q.thread = one_thread threads i v.thread q.thread v.at q.at in
           (thread i q.thread q.at).kept.orderly.order j k x y lt q.has (subst (λ (t : ThreadState). HasItem t.items k y) same v.has) placed
           (subst (λ (ys : List Item). WaitsFor ys j x.kind k y.kind) (items_at threads i q.thread q.at) waits));
       store_order = λ i j k x y lt g_x g_y sx sy placed. (let q = stands threads i j x g_x in let v = stands threads i k y g_y in
           let same : v.thread ≡ q.thread = one_thread threads i v.thread q.thread v.at q.at in
-          stores_keep_order T1 (track_of ram h.core.time q.thread) j k x y (thread i q.thread q.at).kept lt q.has (subst (λ (t : ThreadState). HasItem t.items k y) same v.has) sx sy placed);
+          stores_keep_order h.core.chip (track_of ram h.core.time q.thread) j k x y (thread i q.thread q.at).kept lt q.has (subst (λ (t : ThreadState). HasItem t.items k y) same v.has) sx sy placed);
       out_order = out_is_in_order;
       rows = λ i k x g access. (let q = stands threads i k x g in
-          let row : RowIn T1 ram (l1_by T1 number h.received) q.thread.items k x x.kind = (thread i q.thread q.at).right.items k x q.has access in
-          subst (λ (n : ℕ). RowIn T1 n (l1_by T1 number h.received) (strand_items p i) k x x.kind) s.ram
-          (subst (λ (ys : List Item). RowIn T1 ram (l1_by T1 number h.received) ys k x x.kind) (sym (items_at threads i q.thread q.at)) row));
+          let row : RowIn h.core.chip ram (l1_by h.core.chip number h.received) q.thread.items k x x.kind = (thread i q.thread q.at).right.items k x q.has access in
+          subst (λ (n : ℕ). RowIn h.core.chip n (l1_by h.core.chip number h.received) (strand_items p i) k x x.kind) s.ram
+          (subst (λ (ys : List Item). RowIn h.core.chip ram (l1_by h.core.chip number h.received) ys k x x.kind) (sym (items_at threads i q.thread q.at)) row));
       few = λ i k x g read. (let q = stands threads i k x g in
           subst (λ (ys : List Item). FewAreHeldIn ys k (at_of x.how)) (sym (items_at threads i q.thread q.at)) ((thread i q.thread q.at).kept.orderly.few k x q.has read));
-      ways = λ d r cache line g fills. f.ways r cache line (filter_in (λ (q : RequestData). op_dest T1 q.op == d) r h.sent g).0 fills;
+      ways = λ d r cache line g fills. f.ways r cache line (filter_in (λ (q : RequestData). op_dest h.core.chip q.op == d) r h.sent g).0 fills;
       follows = λ i trace e. subst (λ (n : ℕ). IsTraceSoFar (record { ram = n; budget = config.budget }) (start i) (p.state i) trace (p.standing i)) s.ram (trace_is i trace e);
     }
 
-    pub core_rule : KeepsRule w core p
-    core_rule = subst (λ (c : ℕ). KeepsRule w c p) s.number rule
+    pub core_rule : KeepsRule w core (part_of config.chip h)
+    core_rule =
+        subst (λ (c : ℕ). KeepsRule w c (part_of config.chip h)) s.number
+        (subst (λ (v : Shape). KeepsRule (record { config = record config { chip = v }; image = image }) number (part_of v h)) s.chip rule)
 
 -- ---- the law
 
-core_is : (shape : Shape) (config : Config) (image : Image) (core : ℕ) (calls : List Call)
-    → let w : Setup = record { shape = shape; config = config; image = image } in
-    config.ram % 65536 ≡ 0 → 0 < config.budget → AreWhole calls → IsCore w core (part_of shape (history_of w core calls))
-core_is T1 config image core calls whole some lines =
-    let w : Setup = record { shape = T1; config = config; image = image } in
+core_is : (config : Config) (image : Image) (core : ℕ) (calls : List Call)
+    → let w : Setup = record { config = config; image = image } in
+    config.ram % 65536 ≡ 0 → 0 < config.budget → AreWhole calls → IsCore w core (part_of config.chip (history_of w core calls))
+core_is config image core calls whole some lines =
+    let w : Setup = record { config = config; image = image } in
     record {
       size = traces_are_of_strands w core calls whole;
       meant = λ d r g. requests_are_meant w core d calls r whole g;
@@ -292,4 +297,4 @@ core_is T1 config image core calls whole some lines =
     }
 
 pub cores_keep_their_rule : CoresKeepTheirRule
-cores_keep_their_rule w core calls whole some lines = core_is w.shape w.config w.image core calls whole some lines
+cores_keep_their_rule w core calls whole some lines = core_is w.config w.image core calls whole some lines

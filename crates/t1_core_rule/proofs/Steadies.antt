@@ -1,8 +1,8 @@
 -- Each call keeps what a core keeps whatever packets come.
+use Rattle.t1_shape.specs.Shapes.{Shape}
 use Rattle.std.proofs.Common.{◌≡◌, ◌<◌, ℕ, ◌%◌, List, [], ◌∷◌, ◌++◌, length, Option, Some, None, refl, sym, ◌∙◌, subst, inl, inr, arith, suc, zero}
 use Rattle.std.specs.List.{slice_get}
 use Rattle.std.proofs.lemmas.List.{length-set}
-use Rattle.t1_shape.specs.Shapes.Shape.{T1}
 use Rattle.t1_packet.specs.declared.cache.Cache.{Cache}
 use Rattle.t1_packet.specs.Data.{RequestData}
 use Rattle.t1_joint.specs.Start.{Setup}
@@ -31,6 +31,7 @@ module _ (w : Setup) (core : ℕ) (h : History) (i room : ℕ) (t u : ThreadStat
     (caches : Caches) (pointers : Cache → List ℕ) (m : IsMove (asker h.core i room) h.core.icache h.core.dcache caches pointers t u new) where
   pub moved_steady : IsSteady w core (record { core = with_thread h.core i u; received = h.received; sent = h.sent ++ new })
   moved_steady = record {
+    chip = s.chip;
     number = s.number;
     ram = s.ram;
     size = length-set h.core.threads i u ∙ s.size;
@@ -51,7 +52,7 @@ module _ (w : Setup) (core : ℕ) (h : History) (i room : ℕ) (t u : ThreadStat
                 core_is = f.core ∙ s.number;
                 strand_is = omega (arith, below, strand, size);
                 past = omega (arith, seen);
-                asked = subst (λ (n : ℕ). IsAsked T1 n r.op) s.ram f.asked;
+                asked = subst (λ (v : Shape). IsAsked v w.config.ram r.op) s.chip (subst (λ (n : ℕ). IsAsked h.core.chip n r.op) s.ram f.asked);
               }
         ];
     sent_times = λ r g.
@@ -64,11 +65,13 @@ module _ (w : Setup) (core : ℕ) (h : History) (i room : ℕ) (t u : ThreadStat
         elim (got_set h.core.threads i u j v g) [
           | inl p ↦
               let was = s.threads i t e in
-              let now : IsThread w.config.ram u = record {
+              let goods : AreGoodEntries h.core.chip h.core.ram t.stores =
+              subst (λ (v : Shape). AreGoodEntries v h.core.ram t.stores) (sym s.chip) (subst (λ (n : ℕ). AreGoodEntries w.config.chip n t.stores) (sym s.ram) was.good) in
+              let now : IsThread w.config.chip w.config.ram u = record {
                 sent = m.sent was.sent;
-                good = subst (λ (n : ℕ). AreGoodEntries n u.stores) s.ram (m.good (subst (λ (n : ℕ). AreGoodEntries n t.stores) (sym s.ram) was.good));
+                good = subst (λ (v : Shape). AreGoodEntries v w.config.ram u.stores) s.chip (subst (λ (n : ℕ). AreGoodEntries h.core.chip n u.stores) s.ram (m.good goods));
               } in
-              subst (λ (x : ThreadState). IsThread w.config.ram x) p.1 now
+              subst (λ (x : ThreadState). IsThread w.config.chip w.config.ram x) p.1 now
           | inr p ↦ s.threads j v p.1
         ];
   }
@@ -102,7 +105,7 @@ module _ (w : Setup) (core : ℕ) (h : History) (i room : ℕ) (whole : w.config
       let x : Asker = asker h.core i room in
       let was = s.threads i t e in
       moved_steady w core h i room t (thread_drain x t).thread e (drained_by (thread_drain x t).did) s no_caches no_pointers_at
-      (drain_move x h.core.icache h.core.dcache no_caches no_pointers_at t (subst (λ (n : ℕ). AreGoodEntries n t.stores) (sym s.ram) was.good) was.sent)
+      (drain_move x h.core.icache h.core.dcache no_caches no_pointers_at t (subst (λ (v : Shape). AreGoodEntries v h.core.ram t.stores) (sym s.chip) (subst (λ (n : ℕ). AreGoodEntries w.config.chip n t.stores) (sym s.ram) was.good)) was.sent)
 
   pub drain_steady : IsSteady w core (after_drain h i room)
   unfolding drain_of

@@ -28,6 +28,7 @@ turn_keeps P h room same exec queue = by (next_place h.core room)
 
 pub queued_steady : (w : Setup) (core : ℕ) (h : History) (turns : List ℕ) → IsSteady w core h → IsSteady w core (queued h turns)
 queued_steady w core h turns s = record {
+  chip = s.chip;
   number = s.number;
   ram = s.ram;
   size = s.size;

@@ -4,7 +4,6 @@ use Rattle.std.specs.List.{slice_get}
 use Rattle.std.proofs.lemmas.Bool.{eqb-true}
 use Rattle.std.proofs.lemmas.List.{length-map}
 use Rattle.t1_shape.specs.Shapes.{Shape}
-use Rattle.t1_shape.specs.Shapes.Shape.{T1}
 use Rattle.t1_packet.specs.declared.cache.Cache.{Cache}
 use Rattle.t1_packet.specs.declared.cache.Cache.TheVariants.{Dcache, Icache}
 use Rattle.t1_packet.specs.Caches.{layout, width}
@@ -22,6 +21,7 @@ use Rattle.t1_core.specs.Threads.{ThreadState}
 use Rattle.t1_core.specs.Ends.{trace_of}
 use Rattle.t1_core.specs.Start.{first_thread, threads_from, new_core}
 use Rattle.t1_core.proofs.Joined.{times_rise}
+use Rattle.t1_packet.proofs.Caches.{ways_are}
 use Rattle.t1_core_rule.specs.Histories.{History, Call, Exec, Turn, Drain, Take, after_call, after_calls, begun}
 use Rattle.t1_core_rule.specs.Steady.{IsCache, IsThread, IsSteady}
 use Rattle.t1_core_rule.specs.Laws.{RequestsAreMeant, PacketsArePast, ClocksGoOn, TracesAreOfStrands, history_of}
@@ -48,24 +48,25 @@ unfolding threads_from
 length_threads config entry k zero = refl
 length_threads config entry k (suc n) = let e = length_threads config entry (k + 1) n in omega (arith, e)
 
-first_cache : (cache : Cache) → 0 < (layout T1 cache).ways → IsCache cache (empty_cache (layout T1 cache) (width cache))
+first_cache : (chip : Shape) (cache : Cache) → 0 < (layout chip cache).ways → IsCache chip cache (empty_cache (layout chip cache) (width cache))
 unfolding empty_cache
-first_cache cache some = record { layout_is = refl; width_is = refl; pointers_are = pointers_are_ways.empty (layout T1 cache) (width cache) some }
+first_cache chip cache some = record { layout_is = refl; width_is = refl; pointers_are = pointers_are_ways.empty (layout chip cache) (width cache) some }
 
 pub start_steady : (w : Setup) (core : ℕ) → IsSteady w core (begun w core)
 unfolding new_core
 start_steady w core = record {
+  chip = refl;
   number = refl;
   ram = refl;
   size = length_threads w.config w.image.entry (core * w.config.strands) w.config.strands;
-  dcache = first_cache Dcache (omega arith);
-  icache = first_cache Icache (omega arith);
+  dcache = first_cache w.config.chip Dcache (ways_are w.config.chip Dcache).0;
+  icache = first_cache w.config.chip Icache (ways_are w.config.chip Icache).0;
   time = inl refl;
   past = λ p h. absurd h;
   own = λ r h. absurd h;
   sent_times = λ r h. absurd h;
   ascends = tt;
-  threads = λ i t e. subst (λ (v : ThreadState). IsThread w.config.ram v) (thread_is w.config w.image.entry (core * w.config.strands) w.config.strands i t e) (record { sent = tt; good = tt });
+  threads = λ i t e. subst (λ (v : ThreadState). IsThread w.config.chip w.config.ram v) (thread_is w.config w.image.entry (core * w.config.strands) w.config.strands i t e) (record { sent = tt; good = tt });
 }
 
 -- ---- calls
@@ -86,19 +87,19 @@ history_steady w core calls whole = calls_steady w core (begun w core) calls who
 
 -- ---- the laws
 
-meant : (w : Setup) (core dest : ℕ) (shape : Shape) → w.shape ≡ shape → (h : History) (r : RequestData) → IsSteady w core h → IsIn r (sent_to w.shape dest h.sent) → IsMeant w core dest r
-meant w core dest T1 e h r s g =
-    let p = filter_in (λ (q : RequestData). op_dest w.shape q.op == dest) r h.sent g in
+meant : (w : Setup) (core dest : ℕ) (h : History) (r : RequestData) → IsSteady w core h → IsIn r (sent_to w.config.chip dest h.sent) → IsMeant w core dest r
+meant w core dest h r s g =
+    let p = filter_in (λ (q : RequestData). op_dest w.config.chip q.op == dest) r h.sent g in
     let own = s.own r p.0 in
     record {
       core_is = own.core_is;
       strand_is = own.strand_is;
-      dest_is = eqb-true (op_dest w.shape r.op) dest p.1;
-      asked = subst (λ (v : Shape). IsAsked v w.config.ram r.op) (sym e) own.asked;
+      dest_is = eqb-true (op_dest w.config.chip r.op) dest p.1;
+      asked = own.asked;
     }
 
 pub requests_are_meant : RequestsAreMeant
-requests_are_meant w core dest calls r whole g = meant w core dest w.shape refl (history_of w core calls) r (history_steady w core calls whole) g
+requests_are_meant w core dest calls r whole g = meant w core dest (history_of w core calls) r (history_steady w core calls whole) g
 
 pub packets_are_past : PacketsArePast
 packets_are_past w core calls p whole g = (history_steady w core calls whole).past p g

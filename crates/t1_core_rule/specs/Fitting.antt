@@ -1,7 +1,7 @@
 -- Caches as their slots and pointers; and what a core keeps where the packets that came are proper.
 use Rattle.std.specs.Prelude.{ℕ, ◌≡◌, ◌++◌, Bool, List, Option, Some}
 use Rattle.std.specs.List.{slice_get}
-use Rattle.t1_shape.specs.Shapes.Shape.{T1}
+use Rattle.t1_shape.specs.Shapes.{Shape}
 use Rattle.t1_shape.specs.Slots.{Line}
 use Rattle.t1_packet.specs.declared.cache.Cache.{Cache}
 use Rattle.t1_packet.specs.declared.cache.Cache.TheVariants.{Dcache, Icache}
@@ -29,8 +29,8 @@ use Rattle.t1_core.specs.Threads.{ThreadState}
 use Rattle.t1_core_rule.specs.Histories.{History}
 use Rattle.t1_core_rule.specs.Outs.{stores_out, outs_at, track_of, AreEntriesOf}
 
-abbrev pub cache_with : Cache → List (Option Line) → List ℕ → CacheState
-cache_with cache slots pointers = record { layout = layout T1 cache; width = width cache; slots = slots; pointers = pointers }
+abbrev pub cache_with : Shape → Cache → List (Option Line) → List ℕ → CacheState
+cache_with chip cache slots pointers = record { layout = layout chip cache; width = width cache; slots = slots; pointers = pointers }
 
 -- the item that a reply made, or placed, stands where it says
 pub record IsMadeBy (threads : List ThreadState) (index : ℕ) (reply : ReplyData) : Type 0 where
@@ -42,28 +42,28 @@ pub record IsMadeBy (threads : List ThreadState) (index : ℕ) (reply : ReplyDat
   pub how : item.how ≡ Commit index reply.seen
 
 -- one strand of the core of this number, over the packets that came, with the units of its run
-pub record IsFittingThread (number ram clock budget : ℕ) (received : List Packet) (strand : ℕ) (t : ThreadState) : Type 0 where
+pub record IsFittingThread (chip : Shape) (number ram clock budget : ℕ) (received : List Packet) (strand : ℕ) (t : ThreadState) : Type 0 where
   pub budget_is : t.budget ≡ budget
   -- program order, times and places
-  pub kept : IsKept (one_destination T1) (track_of ram clock t)
-  pub right : ArePlacedRightly T1 ram (slots_by T1 number received) (track_of ram clock t)
+  pub kept : IsKept (one_destination chip) (track_of ram clock t)
+  pub right : ArePlacedRightly chip ram (slots_by chip number received) (track_of ram clock t)
   pub entries : AreEntriesOf t.items t.stores
   pub times : (k : ℕ) (x : Item) → HasItem t.items k x → IsTime received (at_of x.how)
   -- what it has out, and what answered it
-  pub way : (d : ℕ) × GoTo T1 d (stores_out number strand t.stores t.times)
+  pub way : (d : ℕ) × GoTo chip d (stores_out number strand t.stores t.times)
   pub came : (k n seen : ℕ) (x : Item) → HasItem t.items k x → x.how ≡ Commit n seen → HasCome received strand k n seen x
 
 pub record IsFitting (w : Setup) (h : History) : Type 0 where
   -- the requests without a reply, by destination, are what the strands have out
   pub rest : ℕ → List RequestData
-  pub are : (d : ℕ) → answered T1 h.core.number d h.received ++ rest d ≡ sent_to T1 d h.sent
-  pub out : (s : ℕ) (stores : Bool) (d : ℕ) → of_class s stores (rest d) ≡ sent_to T1 d (outs_at h.core.number s h.core.ram stores (slice_get h.core.threads s))
+  pub are : (d : ℕ) → answered h.core.chip h.core.number d h.received ++ rest d ≡ sent_to h.core.chip d h.sent
+  pub out : (s : ℕ) (stores : Bool) (d : ℕ) → of_class s stores (rest d) ≡ sent_to h.core.chip d (outs_at h.core.number s h.core.ram stores (slice_get h.core.threads s))
   pub threads : (s : ℕ) (t : ThreadState) → slice_get h.core.threads s ≡ Some t
-      → IsFittingThread h.core.number h.core.ram h.core.time w.config.budget h.received s t
+      → IsFittingThread h.core.chip h.core.number h.core.ram h.core.time w.config.budget h.received s t
   pub replies : (packet : Packet) (reply : ReplyData) → IsIn packet h.received → packet.reply ≡ Some reply → IsMadeBy h.core.threads packet.index reply
   -- the caches are those of the packets
-  pub dcache : h.core.dcache ≡ cache_with Dcache (l1_by T1 h.core.number h.received h.core.time Dcache) (pointers_by T1 h.received h.core.time Dcache)
-  pub icache : h.core.icache ≡ cache_with Icache (l1_by T1 h.core.number h.received h.core.time Icache) (pointers_by T1 h.received h.core.time Icache)
+  pub dcache : h.core.dcache ≡ cache_with h.core.chip Dcache (l1_by h.core.chip h.core.number h.received h.core.time Dcache) (pointers_by h.core.chip h.received h.core.time Dcache)
+  pub icache : h.core.icache ≡ cache_with h.core.chip Icache (l1_by h.core.chip h.core.number h.received h.core.time Icache) (pointers_by h.core.chip h.received h.core.time Icache)
   -- a fetch or load asked for the victim of its cache
   pub ways : (r : RequestData) (cache : Cache) (line : ℕ) → IsIn r h.sent → filled_line cache r.op ≡ Some line
-      → asked_way r.op ≡ victim_by T1 h.core.number h.received r.seen cache line
+      → asked_way r.op ≡ victim_by h.core.chip h.core.number h.received r.seen cache line

@@ -1,10 +1,10 @@
 -- The laws of a core.
+use Rattle.t1_shape.specs.Shapes.{Shape}
 use Rattle.std.specs.Prelude.{ℕ, ◌≡◌, ◌%◌, ◌<◌, ◌≤◌, ◌⊎◌, List, [], ◌∷◌, length, Some, None}
 use Rattle.t1_packet.specs.declared.packet.Packet.{Packet}
 use Rattle.t1_packet.specs.Data.{RequestData, ReplyData}
 use Rattle.t1_joint.specs.Lists.{IsIn}
 use Rattle.t1_joint.specs.Start.{Setup}
-use Rattle.t1_shape.specs.Shapes.Shape.{T1}
 use Rattle.t1_packet.specs.declared.cache.Cache.TheVariants.{Dcache, Icache}
 use Rattle.t1_joint.specs.Proper.{IsTime, AreProper, l1_by, pointers_by}
 use Rattle.t1_received.specs.Requests.{sent_to}
@@ -43,7 +43,7 @@ IsWhole w = w.config.ram % 65536 ≡ 0
 abbrev pub RequestsAreMeant : Type 0
 RequestsAreMeant =
     (w : Setup) (core dest : ℕ) (calls : List Call) (request : RequestData) → IsWhole w
-    → IsIn request ((part_of w.shape (history_of w core calls)).sent dest) → IsMeant w core dest request
+    → IsIn request ((part_of w.config.chip (history_of w core calls)).sent dest) → IsMeant w core dest request
 
 -- each packet that came has an index below the core's time, or the last index that there is
 abbrev pub PacketsArePast : Type 0
@@ -62,23 +62,23 @@ ClocksGoOn = (w : Setup) (core : ℕ) (calls : List Call) (call : Call) → IsWh
 -- a core has as many traces as strands
 abbrev pub TracesAreOfStrands : Type 0
 TracesAreOfStrands =
-    (w : Setup) (core : ℕ) (calls : List Call) → IsWhole w → length (part_of w.shape (history_of w core calls)).traces ≡ w.config.strands
+    (w : Setup) (core : ℕ) (calls : List Call) → IsWhole w → length (part_of w.config.chip (history_of w core calls)).traces ≡ w.config.strands
 
 -- the rule of a core, whole: where a strand may run some units, each history of its calls is a part of a run
 -- as the law of fitting parts asks it of a core
 abbrev pub CoresKeepTheirRule : Type 0
 CoresKeepTheirRule =
-    (w : Setup) (core : ℕ) (calls : List Call) → IsWhole w → 0 < w.config.budget → AreWhole calls → IsCore w core (part_of w.shape (history_of w core calls))
+    (w : Setup) (core : ℕ) (calls : List Call) → IsWhole w → 0 < w.config.budget → AreWhole calls → IsCore w core (part_of w.config.chip (history_of w core calls))
 
 -- where the packets that came are proper, the core's caches are those of its packets
-pub record CachesAreOfPackets (core : ℕ) (h : History) : Type 0 where
-  pub dcache : h.core.dcache ≡ cache_with Dcache (l1_by T1 core h.received h.core.time Dcache) (pointers_by T1 h.received h.core.time Dcache)
-  pub icache : h.core.icache ≡ cache_with Icache (l1_by T1 core h.received h.core.time Icache) (pointers_by T1 h.received h.core.time Icache)
+pub record CachesAreOfPackets (chip : Shape) (core : ℕ) (h : History) : Type 0 where
+  pub dcache : h.core.dcache ≡ cache_with chip Dcache (l1_by chip core h.received h.core.time Dcache) (pointers_by chip h.received h.core.time Dcache)
+  pub icache : h.core.icache ≡ cache_with chip Icache (l1_by chip core h.received h.core.time Icache) (pointers_by chip h.received h.core.time Icache)
 
 abbrev pub CachesFollowPackets : Type 0
 CachesFollowPackets =
     (w : Setup) (core : ℕ) (calls : List Call) → IsWhole w → 0 < w.config.budget → AreWhole calls
-    → AreProper T1 core (λ d. sent_to T1 d (history_of w core calls).sent) (history_of w core calls).received → CachesAreOfPackets core (history_of w core calls)
+    → AreProper w.config.chip core (λ d. sent_to w.config.chip d (history_of w core calls).sent) (history_of w core calls).received → CachesAreOfPackets w.config.chip core (history_of w core calls)
 
 -- a history whose packets are proper: one packet comes, with a kill
 abbrev pub example : ℕ → List Call
@@ -87,4 +87,4 @@ example core = Take (record { index = 5; reply = None; kills = (record { core = 
 abbrev pub PacketsCanBeProper : Type 0
 PacketsCanBeProper =
     (w : Setup) (core : ℕ)
-    → AreWhole (example core) × AreProper w.shape core (part_of w.shape (history_of w core (example core))).sent (history_of w core (example core)).received
+    → AreWhole (example core) × AreProper w.config.chip core (part_of w.config.chip (history_of w core (example core))).sent (history_of w core (example core)).received

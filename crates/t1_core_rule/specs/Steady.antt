@@ -1,7 +1,7 @@
 -- What a core keeps whatever packets come.
 use Rattle.std.specs.Prelude.{ℕ, ◌≡◌, ◌≤◌, ◌<◌, List, [], ◌∷◌, length, Some}
 use Rattle.std.specs.List.{slice_get}
-use Rattle.t1_shape.specs.Shapes.Shape.{T1}
+use Rattle.t1_shape.specs.Shapes.{Shape}
 use Rattle.t1_packet.specs.declared.cache.Cache.{Cache}
 use Rattle.t1_packet.specs.declared.cache.Cache.TheVariants.{Dcache, Icache}
 use Rattle.t1_packet.specs.Caches.{layout, width}
@@ -19,40 +19,41 @@ use Rattle.t1_core.specs.Stores.{AreSent, store_op}
 use Rattle.t1_core_rule.specs.Histories.{History}
 
 -- a store of the buffer: as a core may ask for it, with the number of its destination
-pub record IsGoodEntry (ram : ℕ) (e : Entry) : Type 0 where
-  pub asked : IsAsked T1 ram (store_op e)
-  pub dest : e.dest ≡ op_dest T1 (store_op e)
+pub record IsGoodEntry (chip : Shape) (ram : ℕ) (e : Entry) : Type 0 where
+  pub asked : IsAsked chip ram (store_op e)
+  pub dest : e.dest ≡ op_dest chip (store_op e)
 
-abbrev pub AreGoodEntries : ℕ → List Entry → Type 0
-AreGoodEntries ram [] = Unit {0}
-AreGoodEntries ram (e ∷ es) = IsGoodEntry ram e × AreGoodEntries ram es
+abbrev pub AreGoodEntries : Shape → ℕ → List Entry → Type 0
+AreGoodEntries chip ram [] = Unit {0}
+AreGoodEntries chip ram (e ∷ es) = IsGoodEntry chip ram e × AreGoodEntries chip ram es
 
 -- a cache of the chip, whose pointers are ways
-pub record IsCache (cache : Cache) (c : CacheState) : Type 0 where
-  pub layout_is : c.layout ≡ layout T1 cache
+pub record IsCache (chip : Shape) (cache : Cache) (c : CacheState) : Type 0 where
+  pub layout_is : c.layout ≡ layout chip cache
   pub width_is : c.width ≡ width cache
-  pub pointers_are : ArePointers (layout T1 cache).ways c.pointers
+  pub pointers_are : ArePointers (layout chip cache).ways c.pointers
 
 -- a request as this core sends it
 pub record IsOwn (w : Setup) (core time : ℕ) (request : RequestData) : Type 0 where
   pub core_is : request.core ≡ core
   pub strand_is : request.strand < w.config.strands
   pub past : request.seen ≤ time
-  pub asked : IsAsked T1 w.config.ram request.op
+  pub asked : IsAsked w.config.chip w.config.ram request.op
 
-pub record IsThread (ram : ℕ) (t : ThreadState) : Type 0 where
+pub record IsThread (chip : Shape) (ram : ℕ) (t : ThreadState) : Type 0 where
   pub sent : AreSent t.stores t.times
-  pub good : AreGoodEntries ram t.stores
+  pub good : AreGoodEntries chip ram t.stores
 
 pub record IsSteady (w : Setup) (core : ℕ) (h : History) : Type 0 where
+  pub chip : h.core.chip ≡ w.config.chip
   pub number : h.core.number ≡ core
   pub ram : h.core.ram ≡ w.config.ram
   pub size : length h.core.threads ≡ w.config.strands
-  pub dcache : IsCache Dcache h.core.dcache
-  pub icache : IsCache Icache h.core.icache
+  pub dcache : IsCache h.core.chip Dcache h.core.dcache
+  pub icache : IsCache h.core.chip Icache h.core.icache
   pub time : IsTime h.received h.core.time
   pub past : ArePast h.core.time h.received
   pub own : (request : RequestData) → IsIn request h.sent → IsOwn w core h.core.time request
   pub sent_times : (request : RequestData) → IsIn request h.sent → IsTime h.received request.seen
   pub ascends : SeenAscends 0 h.sent
-  pub threads : (s : ℕ) (t : ThreadState) → slice_get h.core.threads s ≡ Some t → IsThread w.config.ram t
+  pub threads : (s : ℕ) (t : ThreadState) → slice_get h.core.threads s ≡ Some t → IsThread w.config.chip w.config.ram t

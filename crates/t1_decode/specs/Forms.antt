@@ -1,7 +1,7 @@
 -- The instructions whose forms look at more than op, op2 and op3.
 use Rattle.std.specs.Prelude.{ℕ, ◌+◌, ◌*◌, ◌%◌, ◌^◌, List, [], ◌∷◌, ◌==◌, ◌&&◌, not, if◌then◌else◌, Bool, true, false}
 use Rattle.t1_num.specs.Fields.{field_of}
-use Rattle.t1_insn.specs.Ranges.{is_register_condition, is_read_asr, is_write_asr, is_read_privileged, is_write_privileged}
+use Rattle.t1_insn.specs.Ranges.{is_register_condition, is_read_asr, is_write_asr, is_read_privileged, is_hyperprivileged, is_write_privileged}
 use Rattle.t1_insn.specs.declared.operation.ShiftOp.{ShiftOp}
 use Rattle.t1_insn.specs.declared.operand.Mem.{Mem}
 use Rattle.t1_insn.specs.declared.operation.LoadKind.{LoadKind}
@@ -9,7 +9,7 @@ use Rattle.t1_insn.specs.declared.operation.LoadKind.TheVariants as load
 use Rattle.t1_insn.specs.declared.operation.StoreKind.{StoreKind}
 use Rattle.t1_insn.specs.declared.operation.StoreKind.TheVariants as store
 use Rattle.t1_insn.specs.declared.instruction.Insn.{Insn}
-use Rattle.t1_insn.specs.declared.instruction.Insn.TheVariants.{Illegal, FpOff, Stbar, Saved, Restored, Done, Retry, Bpcc, Bpr, Membar, Shift, ReadAsr, WriteAsr, ReadPr, WritePr, Movcc, Movr, Trap, Load, Store, Cas}
+use Rattle.t1_insn.specs.declared.instruction.Insn.TheVariants.{Illegal, FpOff, Stbar, Saved, Restored, Done, Retry, Bpcc, Bpr, Membar, Shift, ReadAsr, WriteAsr, ReadPr, ReadHpr, WritePr, WriteHpr, Movcc, Movr, Trap, Load, Store, Cas}
 use Rattle.t1_decode.specs.Fields.{is_set, signed_of, rd_of, rs1_of, rs2_of, cond_of, space_of, signed_source_of, number_source_of, source_of}
 use Rattle.t1_decode.specs.Rows.{row_of, or_else}
 
@@ -48,6 +48,10 @@ read_asr_of word =
 unfoldable pub read_privileged_of : ℕ → Insn
 read_privileged_of word = if is_read_privileged (rs1_of word) then ReadPr (rs1_of word) (rd_of word) else Illegal
 
+-- read a hyperprivileged register (A.43)
+unfoldable pub read_hyper_of : ℕ → Insn
+read_hyper_of word = if is_hyperprivileged (rs1_of word) then ReadHpr (rs1_of word) (rd_of word) else Illegal
+
 -- move on condition codes (A.35): where bit 18 is 0, on those of the floating-point unit
 unfoldable pub movcc_of : ℕ → Insn
 movcc_of word =
@@ -69,6 +73,10 @@ write_asr_of word = if is_write_asr (rd_of word) then WriteAsr (rd_of word) (rs1
 -- write a privileged register (A.62)
 unfoldable pub write_privileged_of : ℕ → Insn
 write_privileged_of word = if is_write_privileged (rd_of word) then WritePr (rd_of word) (rs1_of word) (source_of word) else Illegal
+
+-- write a hyperprivileged register (A.62)
+unfoldable pub write_hyper_of : ℕ → Insn
+write_hyper_of word = if is_hyperprivileged (rd_of word) then WriteHpr (rd_of word) (rs1_of word) (source_of word) else Illegal
 
 -- the instruction that rd chooses: saved and restored (A.47), done and retry (A.11)
 unfoldable pub saved_of : ℕ → Insn

@@ -10,7 +10,7 @@ use Rattle.t1_insn.specs.declared.instruction.Insn.TheVariants.{Illegal, FpOff, 
 use Rattle.t1_decode.specs.Fields.{is_set, signed_of, rd_of, rs1_of, cond_of, source_of, alternate_of}
 use Rattle.t1_decode.specs.Rows.{row_of, moved, or_else}
 use Rattle.t1_decode.specs.AluTable.{alu_rows}
-use Rattle.t1_decode.specs.Forms.{bpcc_of, bpr_of, shift_of, read_asr_of, read_privileged_of, movcc_of, movr_of, write_asr_of, write_privileged_of, saved_of, done_of, trap_of}
+use Rattle.t1_decode.specs.Forms.{bpcc_of, bpr_of, shift_of, read_asr_of, read_privileged_of, read_hyper_of, movcc_of, movr_of, write_asr_of, write_privileged_of, write_hyper_of, saved_of, done_of, trap_of}
 use Rattle.t1_decode.specs.MemoryTable.{access_rows, other_access_rows}
 
 -- op 0, by op2
@@ -33,6 +33,7 @@ control_rows =
     (0x26, shift_of Srl) ∷
     (0x27, shift_of Sra) ∷
     (0x28, read_asr_of) ∷
+    (0x29, read_hyper_of) ∷
     (0x2a, read_privileged_of) ∷
     (0x2b, λ word. Flushw) ∷
     (0x2c, movcc_of) ∷
@@ -40,6 +41,7 @@ control_rows =
     (0x30, write_asr_of) ∷
     (0x31, saved_of) ∷
     (0x32, write_privileged_of) ∷
+    (0x33, write_hyper_of) ∷
     (0x34, λ word. FpOff) ∷
     (0x35, λ word. FpOff) ∷
     (0x38, λ word. Jmpl (rd_of word) (rs1_of word) (source_of word)) ∷

@@ -1,8 +1,8 @@
 //! The instructions whose forms look at more than op, op2 and op3.
 ghost use Rattle.std.specs.Prelude.{◌≡◌};
-ghost use Rattle.t1_insn.specs.Ranges.{IsInRange, IsMem, is_register_condition, is_read_asr, is_write_asr, is_read_privileged, is_write_privileged};
+ghost use Rattle.t1_insn.specs.Ranges.{IsInRange, IsMem, is_register_condition, is_read_asr, is_write_asr, is_read_privileged, is_hyperprivileged, is_write_privileged};
 ghost use Rattle.t1_decode.specs.Rows.{row_of};
-ghost use Rattle.t1_decode.specs.Forms.{codes_rows, bpcc_of, bpr_of, shift_of, read_asr_of, read_privileged_of, movcc_of, movr_of, write_asr_of, write_privileged_of, saved_of, done_of, trap_of, load_of, store_of, cas_of};
+ghost use Rattle.t1_decode.specs.Forms.{codes_rows, bpcc_of, bpr_of, shift_of, read_asr_of, read_privileged_of, read_hyper_of, movcc_of, movr_of, write_asr_of, write_privileged_of, write_hyper_of, saved_of, done_of, trap_of, load_of, store_of, cas_of};
 
 use crate::fields::{bit, cond, number_source, rd, rs1, rs2, signed, signed_source, source, space};
 use t1_insn::{Insn, LoadKind, Mem, ShiftOp, StoreKind};
@@ -119,6 +119,19 @@ pub fn read_privileged(word: u32) -> Insn
     }
 }
 
+/// A read of a hyperprivileged register (UltraSPARC Architecture 2005).
+#[tactic(auto, unfolding(crate::specs::Forms::read_hyper_of))]
+pub fn read_hyper(word: u32) -> Insn
+    ensures value { result ≡ read_hyper_of word }
+    ensures in_range { IsInRange result }
+{
+    let reg = rs1(word);
+    match reg {
+        0 | 1 | 5 => Insn::ReadHpr { reg, rd: rd(word) },
+        _ => Insn::Illegal,
+    }
+}
+
 /// A move on condition codes (SPARC V9 A.35).
 #[tactic(auto, unfolding(crate::specs::Forms::movcc_of))]
 pub fn movcc(word: u32) -> Insn
@@ -183,6 +196,23 @@ pub fn write_privileged(word: u32) -> Insn
     let reg = rd(word);
     match reg {
         0..=3 | 5..=0x0e | 0x10 => Insn::WritePr {
+            reg,
+            rs1: rs1(word),
+            src: source(word),
+        },
+        _ => Insn::Illegal,
+    }
+}
+
+/// A write of a hyperprivileged register (UltraSPARC Architecture 2005).
+#[tactic(auto, unfolding(crate::specs::Forms::write_hyper_of))]
+pub fn write_hyper(word: u32) -> Insn
+    ensures value { result ≡ write_hyper_of word }
+    ensures in_range { IsInRange result }
+{
+    let reg = rd(word);
+    match reg {
+        0 | 1 | 5 => Insn::WriteHpr {
             reg,
             rs1: rs1(word),
             src: source(word),

@@ -8,8 +8,8 @@ ghost use Rattle.t1_decode.specs.Words.{branch_of, arithmetic_of, control_of, me
 
 use crate::fields::{alternate, bit, cond, rd, rs1, signed, source};
 use crate::forms::{
-    bpcc, bpr, cas, done, load, movcc, movr, read_asr, read_privileged, saved, shift, store, trap,
-    write_asr, write_privileged,
+    bpcc, bpr, cas, done, load, movcc, movr, read_asr, read_hyper, read_privileged, saved, shift, store, trap,
+    write_asr, write_hyper, write_privileged,
 };
 use crate::{access_rows, alu_rows, control_rows};
 use t1_insn::{AluOp, Insn, LoadKind, Mem, ShiftOp, StoreKind};
@@ -106,6 +106,7 @@ macro_rules! control_arms {
         match $op3 {
             $($shift_number => *$insn = shift(ShiftOp::$shift, $word),)*
             0x28 => *$insn = read_asr($word),
+            0x29 => *$insn = read_hyper($word),
             0x2a => *$insn = read_privileged($word),
             0x2b => *$insn = Insn::Flushw,
             0x2c => *$insn = movcc($word),
@@ -113,6 +114,7 @@ macro_rules! control_arms {
             0x30 => *$insn = write_asr($word),
             0x31 => *$insn = saved($word),
             0x32 => *$insn = write_privileged($word),
+            0x33 => *$insn = write_hyper($word),
             0x34 | 0x35 => *$insn = Insn::FpOff,
             $($rd_number => *$insn = Insn::$rd_form { rd: rd($word), rs1: rs1($word), src: source($word) },)*
             $($number => *$insn = Insn::$form { rs1: rs1($word), src: source($word) },)*

@@ -4,54 +4,64 @@ use Rattle.std.specs.List.{list_any}
 use Rattle.std.proofs.lemmas.List.{get_or-set_same, get_or-set_other, length-set, length-replicate, get_or_past}
 use Rattle.std.proofs.lemmas.List.Folds.{list_any_at}
 use Rattle.std.proofs.lemmas.Bool.{cases_lt, cases_eq, eq-eqb}
-use Rattle.t1_shape.specs.Slots.{Layout, slot_of}
+use Rattle.t1_num.specs.declared.chip.ChipKind.TheVariants.{T1, T2}
+use Rattle.t1_shape.specs.Shapes.{Shape}
+use Rattle.t1_shape.specs.Slots.{Layout, slot_of, InSet, first_slot}
 use Rattle.t1_shape.proofs.Slots.{slot_some}
 use Rattle.t1_shape.proofs.Once.{set_read, none_at}
+use Rattle.t1_packet.specs.declared.cache.Cache.{Cache}
+use Rattle.t1_packet.specs.declared.cache.Cache.TheVariants.{Dcache, Icache}
+use Rattle.t1_packet.specs.Caches.{layout}
 use Rattle.t1_dir.specs.Directory.{row_with}
-use Rattle.t1_dir.specs.Marks.{mark_of, mark_index, mark_at, marked_with, IsUnmarked, IsUnmarkedBut, AreMarked}
+use Rattle.t1_dir.specs.Marks.{mark_of, mark_index, mark_at, marked_with, IsFreeRow, IsFreeRowBut, AreRows, IsUnmarked, IsUnmarkedBut, AreMarked}
 
--- both caches have 128 sets of four ways
-abbrev pub both : Layout
-both = record { ways = 4; sets = 128 }
+-- the slots of a cache's sets stand so
+pub layout_rows : (shape : Shape) (cache : Cache) → AreRows (layout shape cache).ways (layout shape cache).sets
+layout_rows T1 Dcache = inl (refl, refl)
+layout_rows T1 Icache = inl (refl, refl)
+layout_rows T2 Dcache = inl (refl, refl)
+layout_rows T2 Icache = inr (refl, refl)
 
--- a slot of a core that holds a line is one that has the mark, in the line's row
-record Marked (marks : List (List ℕ)) (core line : ℕ) : Type 0 where
-  way : ℕ
-  low : way < 4
-  there : core < 8
-  is : get_or (get_or marks (line % 128) []) (4 * core + way) 0 ≡ mark_of line
+-- a layout by its numbers
+pub layout_is : (ways sets : ℕ) (g : Layout) → ways ≡ g.ways → sets ≡ g.sets → ◌≡◌ {A = Layout} (record { ways = ways; sets = sets }) g
+layout_is ways sets g e f =
+    ap (λ (n : ℕ). (let l : Layout = record { ways = n; sets = sets } in l)) e ∙ ap (λ (n : ℕ). (let l : Layout = record { ways = g.ways; sets = n } in l)) f
 
-found_mark : (tags : List (List (Option ℕ))) (marks : List (List ℕ)) (core line j : ℕ) → AreMarked tags marks → slot_of both (get_or tags core []) line ≡ Some j → Marked marks core line
-found_mark tags marks core line j m e =
-    let f = slot_some both (get_or tags core []) line j e in
-    let set : j / 4 ≡ line % 128 = omega (arith, f.above, f.below) in
-    record {
-      way = j % 4;
-      low = omega arith;
-      there = elim (cases_lt core (length tags)) [
-        | inl l ↦ omega (arith, l, m.few)
-        | inr p ↦
-            let gone : get_or tags core [] ≡ [] = get_or_past tags core [] p in
-            let clash : ◌≡◌ {A = Option ℕ} None (Some line) = sym (ap (λ (ts : List (Option ℕ)). get_or ts j None) gone) ∙ f.is in absurd cc
-      ];
-      is = ap (λ (s : ℕ). get_or (get_or marks s []) (4 * core + j % 4) 0) (sym set) ∙ m.marked core j line f.is;
-    }
+-- a core that shows a line is one of eight
+there : (tags : List (List (Option ℕ))) (marks : List (List ℕ)) (core line j : ℕ) → AreMarked tags marks → get_or (get_or tags core []) j None ≡ Some line → core < 8
+there tags marks core line j m is = elim (cases_lt core (length tags)) [
+  | inl l ↦ omega (arith, l, m.few)
+  | inr p ↦
+      let gone : get_or tags core [] ≡ [] = get_or_past tags core [] p in
+      let clash : ◌≡◌ {A = Option ℕ} None (Some line) = sym (ap (λ (ts : List (Option ℕ)). get_or ts j None) gone) ∙ is in absurd cc
+]
 
-pub hidden : (tags : List (List (Option ℕ))) (marks : List (List ℕ)) (line : ℕ) → AreMarked tags marks → IsUnmarked marks line
-    → (core : ℕ) → slot_of both (get_or tags core []) line ≡ None
-hidden tags marks line m none core = go (slot_of both (get_or tags core []) line) refl
+-- no core, or none but one, shows the line
+abbrev pub IsHiddenIn : Layout → List (List (Option ℕ)) → ℕ → Type 0
+IsHiddenIn g tags line = (core : ℕ) → slot_of g (get_or tags core []) line ≡ None
+
+abbrev pub IsHiddenButIn : Layout → List (List (Option ℕ)) → ℕ → ℕ → Type 0
+IsHiddenButIn g tags own line = (core : ℕ) → (core ≡ own → ⊥) → slot_of g (get_or tags core []) line ≡ None
+
+pub hidden : (g : Layout) (tags : List (List (Option ℕ))) (marks : List (List ℕ)) (line : ℕ) → AreMarked tags marks → IsUnmarked g marks line
+    → (core : ℕ) → slot_of g (get_or tags core []) line ≡ None
+hidden g tags marks line m none core = go (slot_of g (get_or tags core []) line) refl
   where
-    go : (o : Option ℕ) → slot_of both (get_or tags core []) line ≡ o → slot_of both (get_or tags core []) line ≡ None
+    go : (o : Option ℕ) → slot_of g (get_or tags core []) line ≡ o → slot_of g (get_or tags core []) line ≡ None
     go None e = e
-    go (Some j) e = let x = found_mark tags marks core line j m e in absurd (none (4 * core + x.way) (omega (arith, x.low, x.there)) x.is)
+    go (Some j) e =
+        let f = slot_some g (get_or tags core []) line j e in
+        absurd (none core j (there tags marks core line j m f.is) (record { above = f.above; below = f.below }) (m.marked core j line f.is))
 
-pub hidden_but : (tags : List (List (Option ℕ))) (marks : List (List ℕ)) (own line : ℕ) → AreMarked tags marks → IsUnmarkedBut marks own line
-    → (core : ℕ) → (core ≡ own → ⊥) → slot_of both (get_or tags core []) line ≡ None
-hidden_but tags marks own line m none core ne = go (slot_of both (get_or tags core []) line) refl
+pub hidden_but : (g : Layout) (tags : List (List (Option ℕ))) (marks : List (List ℕ)) (own line : ℕ) → AreMarked tags marks → IsUnmarkedBut g marks own line
+    → (core : ℕ) → (core ≡ own → ⊥) → slot_of g (get_or tags core []) line ≡ None
+hidden_but g tags marks own line m none core ne = go (slot_of g (get_or tags core []) line) refl
   where
-    go : (o : Option ℕ) → slot_of both (get_or tags core []) line ≡ o → slot_of both (get_or tags core []) line ≡ None
+    go : (o : Option ℕ) → slot_of g (get_or tags core []) line ≡ o → slot_of g (get_or tags core []) line ≡ None
     go None e = e
-    go (Some j) e = let x = found_mark tags marks core line j m e in absurd (none core x.way x.there x.low ne x.is)
+    go (Some j) e =
+        let f = slot_some g (get_or tags core []) line j e in
+        absurd (none core j (there tags marks core line j m f.is) (record { above = f.above; below = f.below }) ne (m.marked core j line f.is))
 
 -- a mark that is in a row is found
 pub not_among : (row : List ℕ) (mark : ℕ) → list_any (λ x. eqb x mark) row ≡ false → (i : ℕ) → i < length row → get_or row i 0 ≡ mark → ⊥

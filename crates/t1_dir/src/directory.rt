@@ -1,6 +1,5 @@
 //! The directory.
 ghost use Rattle.std.specs.Prelude.{◌≡◌, ℕ, ◌+◌, ◌*◌, ◌/◌, ◌%◌, ◌<◌, ◌≤◌, ◌^◌, false, List, [], Some, None, length, set, get_or, replicate, IfOk};
-ghost use Rattle.t1_shape.specs.Shapes.Shape.{T1};
 ghost use Rattle.t1_shape.specs.Slots.{first_slot, slot_of};
 ghost use Rattle.t1_packet.specs.Caches.{layout, line_of};
 ghost use Rattle.t1_dir.specs.Marks.{AreMarked};
@@ -10,12 +9,14 @@ use crate::marks::Marks;
 use crate::tags::Tags;
 use std::alloc::{AllocError, Global};
 use std::marker::Model;
+use t1_num::ChipKind;
 use t1_packet::Cache;
 
 /// What the L1 caches of the cores hold, as far as a bank knows: a line or nothing for each core,
 /// cache, set and way.
 #[derive(Drop)]
 pub struct Directory {
+    chip: ChipKind,
     dcache: Vec<Tags>,
     icache: Vec<Tags>,
     dcache_marks: Marks,
@@ -23,13 +24,12 @@ pub struct Directory {
 }
 
 impl Model for Directory {
-    ghost use Rattle.t1_shape.specs.Shapes.Shape.{T1};
     ghost use Rattle.t1_dir.specs.Directory.{DirectoryState};
     ghost use Rattle.t1_dir.specs.Marks.{AreMarked};
 
     ghost Value = { DirectoryState };
 
-    ghost view = { λ d. record { shape = T1; dcache = d.dcache.items; icache = d.icache.items } };
+    ghost view = { λ d. record { shape = d.chip; dcache = d.dcache.items; icache = d.icache.items } };
 
     ghost invariant = { λ d. AreMarked d.dcache.items d.dcache_marks × AreMarked d.icache.items d.icache_marks };
 }
@@ -71,15 +71,16 @@ fn show(tags: &mut Vec<Tags>, marks: &mut Marks, core: u8, slot: usize, line: u6
 
 impl Directory {
     /// A directory of so many cores, eight at most, that shows nothing.
-    pub fn new(alloc: Global, cores: u8) -> Result<Directory, AllocError>
+    pub fn new(alloc: Global, chip: ChipKind, cores: u8) -> Result<Directory, AllocError>
         requires { cores ≤ 8 }
-        ensures { IfOk result (λ d. d ≡ directory_start T1 cores) }
+        ensures { IfOk result (λ d. d ≡ directory_start chip cores) }
     {
         let dcache = empty_tags(alloc, cores)?;
         let icache = empty_tags(alloc, cores)?;
         let dcache_marks = Marks::new(alloc)?;
         let icache_marks = Marks::new(alloc)?;
         Ok(Directory {
+            chip,
             dcache,
             icache,
             dcache_marks,
@@ -93,11 +94,7 @@ impl Directory {
         ensures value { result ≡ (layout self.now.shape cache).ways }
         ensures some { (0 < result) × (result ≤ 8) }
     {
-        let _cores = self.dcache.len();
-        match cache {
-            Cache::Dcache => 4,
-            Cache::Icache => 4,
-        }
+        cache.ways(self.chip)
     }
 
     /// The sets of a cache.
@@ -106,11 +103,7 @@ impl Directory {
         ensures value { result ≡ (layout self.now.shape cache).sets }
         ensures some { (0 < result) × (result ≤ 128) }
     {
-        let _cores = self.dcache.len();
-        match cache {
-            Cache::Dcache => 128,
-            Cache::Icache => 128,
-        }
+        cache.sets(self.chip) as u64
     }
 
     #[inline]
@@ -144,10 +137,11 @@ impl Directory {
     pub fn may_show(&self, cache: Cache, addr: u64) -> bool
         ensures { result ≡ false → IsHidden self.now cache (line_of cache addr) }
     {
-        let _cores = self.dcache.len();
+        let ways = self.ways(cache) as usize;
+        let sets = self.sets(cache);
         match cache {
-            Cache::Dcache => self.dcache_marks.may_hold(addr / 16),
-            Cache::Icache => self.icache_marks.may_hold(addr / 32),
+            Cache::Dcache => self.dcache_marks.may_hold(ways, sets, addr / 16),
+            Cache::Icache => self.icache_marks.may_hold(ways, sets, addr / 32),
         }
     }
 
@@ -157,10 +151,11 @@ impl Directory {
         requires { own < 8 }
         ensures { result ≡ false → IsHiddenBut self.now own cache (line_of cache addr) }
     {
-        let _cores = self.dcache.len();
+        let ways = self.ways(cache) as usize;
+        let sets = self.sets(cache);
         match cache {
-            Cache::Dcache => self.dcache_marks.others_may_hold(own, addr / 16),
-            Cache::Icache => self.icache_marks.others_may_hold(own, addr / 32),
+            Cache::Dcache => self.dcache_marks.others_may_hold(ways, sets, own, addr / 16),
+            Cache::Icache => self.icache_marks.others_may_hold(ways, sets, own, addr / 32),
         }
     }
 

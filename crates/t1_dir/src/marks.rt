@@ -1,12 +1,12 @@
 //! The marks of the lines that a set shows.
 ghost use Rattle.std.specs.Prelude.{◌≡◌, ℕ, ◌+◌, ◌*◌, ◌/◌, ◌%◌, ◌<◌, ◌^◌, false, List, [], length, get_or, replicate, IfOk};
-ghost use Rattle.t1_dir.specs.Marks.{mark_of, marked_with, IsUnmarked, IsUnmarkedBut};
+ghost use Rattle.t1_dir.specs.Marks.{mark_of, marked_with, IsFreeRow, IsFreeRowBut, AreRows, IsUnmarked, IsUnmarkedBut};
 
 use std::alloc::{AllocError, Global};
 use std::marker::Model;
 
-/// For each of the 128 sets of a cache a row: the low 32 bits of the line in each of the four ways of
-/// each of eight cores.
+/// For each four slots of a cache a row: the low 32 bits of the line in each of them, of each of eight
+/// cores. A set of four ways has one row, one of eight ways two.
 #[derive(Drop)]
 pub struct Marks {
     rows: Vec<[u32; 32]>,
@@ -41,7 +41,7 @@ fn has_mark(row: &[u32; 32], mark: u32) -> bool
     found
 }
 
-/// A row in which the four ways of a core have another mark.
+/// A row in which the four slots of a core have another mark.
 #[inline]
 fn without(row: &[u32; 32], own: u8, mark: u32) -> [u32; 32]
     requires { own < 8 }
@@ -77,21 +77,43 @@ impl Marks {
         row[4 * core as usize + slot % 4] = mark_of(line);
     }
 
+    #[inline]
+    fn row_may_hold(&self, row: usize, mark: u32) -> bool
+        requires { row < 128 }
+        ensures { result ≡ false → IsFreeRow self.now row mark }
+    {
+        has_mark(&self.rows[row], mark)
+    }
+
+    #[inline]
+    fn others_of_row(&self, row: usize, own: u8, mark: u32) -> bool
+        requires row { row < 128 }
+        requires own { own < 8 }
+        ensures { result ≡ false → IsFreeRowBut self.now row own mark }
+    {
+        has_mark(&without(&self.rows[row], own, mark), mark)
+    }
+
     /// Whether any way of the line's set has the line's mark.
     #[inline]
-    pub fn may_hold(&self, line: u64) -> bool
-        ensures { result ≡ false → IsUnmarked self.now line }
+    pub fn may_hold(&self, ways: usize, sets: u64, line: u64) -> bool
+        requires { AreRows ways sets }
+        ensures { result ≡ false → IsUnmarked (record { ways = ways; sets = sets }) self.now line }
     {
-        has_mark(&self.rows[(line % 128) as usize], mark_of(line))
+        let mark = mark_of(line);
+        let row = ways / 4 * (line % sets) as usize;
+        self.row_may_hold(row, mark) || ways == 8 && self.row_may_hold(row + 1, mark)
     }
 
     /// The same, of every core but one.
     #[inline]
-    pub fn others_may_hold(&self, own: u8, line: u64) -> bool
-        requires { own < 8 }
-        ensures { result ≡ false → IsUnmarkedBut self.now own line }
+    pub fn others_may_hold(&self, ways: usize, sets: u64, own: u8, line: u64) -> bool
+        requires rows { AreRows ways sets }
+        requires own { own < 8 }
+        ensures { result ≡ false → IsUnmarkedBut (record { ways = ways; sets = sets }) self.now own line }
     {
         let mark = mark_of(line);
-        has_mark(&without(&self.rows[(line % 128) as usize], own, mark), mark)
+        let row = ways / 4 * (line % sets) as usize;
+        self.others_of_row(row, own, mark) || ways == 8 && self.others_of_row(row + 1, own, mark)
     }
 }

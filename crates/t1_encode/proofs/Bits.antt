@@ -4,11 +4,11 @@ use Rattle.std.specs.Prelude.{Some, IfSome}
 use Rattle.std.proofs.lemmas.Bool.Decides.{nat_tests, Decides-ltb}
 use Rattle.std.proofs.lemmas.Int.{ints}
 use Rattle.std.proofs.lemmas.Nat.{pow-add}
-use Rattle.t1_insn.specs.Ranges.{IsSigned, IsSignedSource, IsUnsigned, IsNumberSource, is_register_condition, is_read_asr, is_write_asr, is_read_privileged, is_write_privileged}
+use Rattle.t1_insn.specs.Ranges.{IsSigned, IsSignedSource, IsUnsigned, IsNumberSource, is_register_condition, is_read_asr, is_write_asr, is_read_privileged, is_hyperprivileged, is_write_privileged}
 use Rattle.t1_insn.specs.declared.operand.Src.{Src}
 use Rattle.t1_insn.specs.declared.operand.Src.TheVariants.{Reg, Imm}
 use Rattle.t1_decode.specs.Fields.{signed_of, signed_source_of, number_source_of}
-use Rattle.t1_encode.specs.Fields.{number_bits, signed_bits, unsigned_bits, source_bits, number_source_bits, register_condition_bits, read_asr_bits, write_asr_bits, read_privileged_bits, write_privileged_bits}
+use Rattle.t1_encode.specs.Fields.{number_bits, signed_bits, unsigned_bits, source_bits, number_source_bits, register_condition_bits, read_asr_bits, write_asr_bits, read_privileged_bits, hyper_bits, write_privileged_bits}
 use Rattle.t1_encode.proofs.Parts.{word_holds, allowed_holds}
 
 -- a number
@@ -132,6 +132,13 @@ read_privileged_small n t = grind (arith, nat_tests)
 pub read_privileged_holds : (n : ℕ) (P : ℕ → Type 0) → (n < 32 → is_read_privileged n ≡ true → P n) → IfSome (read_privileged_bits n) P
 unfolding read_privileged_bits
 read_privileged_holds n P h = allowed_holds (is_read_privileged n) n P (λ t. h (read_privileged_small n t) t)
+
+hyper_small : (n : ℕ) → is_hyperprivileged n ≡ true → n < 32
+hyper_small n t = grind (arith, nat_tests)
+
+pub hyper_holds : (n : ℕ) (P : ℕ → Type 0) → (n < 32 → is_hyperprivileged n ≡ true → P n) → IfSome (hyper_bits n) P
+unfolding hyper_bits
+hyper_holds n P h = allowed_holds (is_hyperprivileged n) n P (λ t. h (hyper_small n t) t)
 
 write_privileged_small : (n : ℕ) → is_write_privileged n ≡ true → n < 32
 write_privileged_small n t = grind (arith, nat_tests)

@@ -7,12 +7,12 @@ use Rattle.t1_insn.specs.declared.operation.AluOp.TheVariants as alu
 use Rattle.t1_insn.specs.declared.operation.ShiftOp.{ShiftOp}
 use Rattle.t1_insn.specs.declared.operation.ShiftOp.TheVariants.{Sll, Srl, Sra}
 use Rattle.t1_insn.specs.declared.instruction.Insn.{Insn}
-use Rattle.t1_insn.specs.declared.instruction.Insn.TheVariants.{Stbar, Flushw, Saved, Restored, Done, Retry, Membar, Alu, Shift, ReadAsr, WriteAsr, ReadPr, WritePr, Movcc, Movr, Jmpl, Return, Flush, Trap, Save, Restore}
-use Rattle.t1_insn.specs.Ranges.{has_form, is_register_condition, is_read_asr, is_write_asr, is_read_privileged, is_write_privileged}
+use Rattle.t1_insn.specs.declared.instruction.Insn.TheVariants.{Stbar, Flushw, Saved, Restored, Done, Retry, Membar, Alu, Shift, ReadAsr, WriteAsr, ReadPr, WritePr, ReadHpr, WriteHpr, Movcc, Movr, Jmpl, Return, Flush, Trap, Save, Restore}
+use Rattle.t1_insn.specs.Ranges.{has_form, is_register_condition, is_read_asr, is_write_asr, is_read_privileged, is_hyperprivileged, is_write_privileged}
 use Rattle.t1_decode.specs.Fields.{rd_of, rs1_of, source_of, signed_source_of, number_source_of}
 use Rattle.t1_decode.specs.Rows.{row_of}
 use Rattle.t1_decode.specs.AluTable.{alu_rows}
-use Rattle.t1_decode.specs.Forms.{shift_of, read_asr_of, read_privileged_of, movcc_of, movr_of, write_asr_of, write_privileged_of, saved_of, done_of, trap_of}
+use Rattle.t1_decode.specs.Forms.{shift_of, read_asr_of, read_privileged_of, read_hyper_of, write_hyper_of, movcc_of, movr_of, write_asr_of, write_privileged_of, saved_of, done_of, trap_of}
 use Rattle.t1_decode.specs.Words.{insn_of, arithmetic_of, control_of}
 use Rattle.t1_encode.specs.Fields.{codes_bits}
 use Rattle.t1_encode.specs.Numbers.{alu_number, shift_number}
@@ -90,6 +90,15 @@ pub write_privileged_again : (reg rs1 low word : ℕ) (src : Src) → IsFormat3 
     → signed_source_of 13 low ≡ src → insn_of word ≡ WritePr reg rs1 src
 unfolding arithmetic_of control_of write_privileged_of
 write_privileged_again reg rs1 low word src f t e = op_2 word 0x32 f.op f.op3 ∙ rw (f.rd, t, f.rs1, source_low word low f.low, e) refl
+
+pub read_hyper_again : (reg rd word : ℕ) → IsFormat3 2 rd 0x29 reg 0 word → is_hyperprivileged reg ≡ true → insn_of word ≡ ReadHpr reg rd
+unfolding arithmetic_of control_of read_hyper_of
+read_hyper_again reg rd word f t = op_2 word 0x29 f.op f.op3 ∙ rw (f.rs1, t, f.rd) refl
+
+pub write_hyper_again : (reg rs1 low word : ℕ) (src : Src) → IsFormat3 2 reg 0x33 rs1 low word → is_hyperprivileged reg ≡ true
+    → signed_source_of 13 low ≡ src → insn_of word ≡ WriteHpr reg rs1 src
+unfolding arithmetic_of control_of write_hyper_of
+write_hyper_again reg rs1 low word src f t e = op_2 word 0x33 f.op f.op3 ∙ rw (f.rd, t, f.rs1, source_low word low f.low, e) refl
 
 pub membar_again : (mask word : ℕ) → mask < 2 ^ 7 → IsFormat3 2 0 0x28 15 (1 * 2 ^ 13 + (mask * 2 ^ 0 + 0)) word → insn_of word ≡ Membar mask
 unfolding arithmetic_of control_of read_asr_of

@@ -11,7 +11,7 @@ use Rattle.t1_insn.specs.declared.operation.LoadKind.TheVariants as load
 use Rattle.t1_insn.specs.declared.operation.StoreKind.{StoreKind}
 use Rattle.t1_insn.specs.declared.operation.StoreKind.TheVariants as store
 use Rattle.t1_insn.specs.declared.instruction.Insn.{Insn}
-use Rattle.t1_insn.specs.declared.instruction.Insn.TheVariants.{Illegal, FpOff, Stbar, Flushw, Saved, Restored, Done, Retry, Bpcc, Bicc, Bpr, Sethi, Call, Membar, Alu, Shift, ReadAsr, WriteAsr, ReadPr, WritePr, Movcc, Movr, Jmpl, Return, Flush, Trap, Save, Restore, Load, Store, Ldstub, Swap, Prefetch, Cas}
+use Rattle.t1_insn.specs.declared.instruction.Insn.TheVariants.{Illegal, FpOff, Stbar, Flushw, Saved, Restored, Done, Retry, Bpcc, Bicc, Bpr, Sethi, Call, Membar, Alu, Shift, ReadAsr, WriteAsr, ReadPr, WritePr, ReadHpr, WriteHpr, Movcc, Movr, Jmpl, Return, Flush, Trap, Save, Restore, Load, Store, Ldstub, Swap, Prefetch, Cas}
 use Rattle.t1_insn.specs.Ranges.{IsInRange, IsSigned}
 use Rattle.t1_decode.specs.Fields.{signed_of}
 use Rattle.t1_decode.specs.Words.{insn_of, branch_of, arithmetic_of, control_of}
@@ -20,12 +20,12 @@ use Rattle.t1_encode.specs.Numbers.{alu_number, shift_number, load_number, store
 use Rattle.t1_encode.specs.Words.{fields_of, encoded, cas_number}
 use Rattle.t1_encode.specs.Laws.{IsDecodedAgain, HasWordInRange, IsOfWordSize}
 use Rattle.t1_encode.proofs.Parts.{HoldsOf, word_holds, AreSome, word_some}
-use Rattle.t1_encode.proofs.Bits.{IsOperand, number_holds, signed_holds, source_holds, number_source_holds, register_condition_holds, read_asr_holds, write_asr_holds, read_privileged_holds, write_privileged_holds, width_5, width_6, width_8, width_10, width_11, width_13}
+use Rattle.t1_encode.proofs.Bits.{IsOperand, number_holds, signed_holds, source_holds, number_source_holds, register_condition_holds, read_asr_holds, write_asr_holds, read_privileged_holds, hyper_holds, write_privileged_holds, width_5, width_6, width_8, width_10, width_11, width_13}
 use Rattle.t1_encode.proofs.Pictures.{IsFormat3, format_3_fields}
 use Rattle.t1_encode.proofs.Branches.{bicc_again, bpcc_again, bpr_again, sethi_again, call_again}
-use Rattle.t1_encode.proofs.Control.{operands_again, alu_number_row, alu_makes, jmpl_makes, return_makes, flush_makes, save_makes, restore_makes, read_asr_again, read_privileged_again, write_asr_again, write_privileged_again, membar_again, stbar_again, flushw_again, saved_again, restored_again, done_again, retry_again, wide_shift_again, narrow_shift_again, movcc_again, movr_again, trap_again}
+use Rattle.t1_encode.proofs.Control.{operands_again, alu_number_row, alu_makes, jmpl_makes, return_makes, flush_makes, save_makes, restore_makes, read_asr_again, read_privileged_again, read_hyper_again, write_hyper_again, write_asr_again, write_privileged_again, membar_again, stbar_again, flushw_again, saved_again, restored_again, done_again, retry_again, wide_shift_again, narrow_shift_again, movcc_again, movr_again, trap_again}
 use Rattle.t1_encode.proofs.Accesses.{loaded, stored, access_again, load_makes, store_makes, ldstub_makes, swap_makes, prefetch_makes, load_register_holds, store_register_holds, mem_holds, space_holds, cas_again}
-use Rattle.t1_encode.proofs.Ranges.{number_some, signed_some, source_some, number_source_some, count_some, mem_some, space_some, load_register_some, store_register_some, alu_number_some, register_condition_some, read_asr_some, write_asr_some, read_privileged_some, write_privileged_some, mapped_some}
+use Rattle.t1_encode.proofs.Ranges.{number_some, signed_some, source_some, number_source_some, count_some, mem_some, space_some, load_register_some, store_register_some, alu_number_some, register_condition_some, read_asr_some, write_asr_some, read_privileged_some, hyper_some, write_privileged_some, mapped_some}
 
 -- the word stands for the instruction, whose fields are in their ranges
 record IsWordOf (insn : Insn) (word : ℕ) : Type 0 where
@@ -136,6 +136,10 @@ fields_hold (ReadPr reg rd) =
     number_holds 5 rd _ (λ h. read_privileged_holds reg _ (λ g t.
     let f = format 2 rd 0x2a reg 0 (omega arith) h (omega arith) g (omega arith) in
     record { again = read_privileged_again reg rd _ f t; range = (t, h); size = f.size }))
+fields_hold (ReadHpr reg rd) =
+    number_holds 5 rd _ (λ h. hyper_holds reg _ (λ g t.
+    let f = format 2 rd 0x29 reg 0 (omega arith) h (omega arith) g (omega arith) in
+    record { again = read_hyper_again reg rd _ f t; range = (t, h); size = f.size }))
 fields_hold (WriteAsr asr rs1 src) =
     write_asr_holds asr _ (λ h t. number_holds 5 rs1 _ (λ g. source_holds 13 width_13 src _ (λ low o e r.
     let f = format 2 asr 0x30 rs1 low (omega arith) h (omega arith) g (operand_small 13 low o) in
@@ -144,6 +148,10 @@ fields_hold (WritePr reg rs1 src) =
     write_privileged_holds reg _ (λ h t. number_holds 5 rs1 _ (λ g. source_holds 13 width_13 src _ (λ low o e r.
     let f = format 2 reg 0x32 rs1 low (omega arith) h (omega arith) g (operand_small 13 low o) in
     record { again = write_privileged_again reg rs1 low _ src f t e; range = (t, (g, r)); size = f.size })))
+fields_hold (WriteHpr reg rs1 src) =
+    hyper_holds reg _ (λ h t. number_holds 5 rs1 _ (λ g. source_holds 13 width_13 src _ (λ low o e r.
+    let f = format 2 reg 0x33 rs1 low (omega arith) h (omega arith) g (operand_small 13 low o) in
+    record { again = write_hyper_again reg rs1 low _ src f t e; range = (t, (g, r)); size = f.size })))
 fields_hold (Membar mask) =
     number_holds 7 mask _ (λ h.
     let f = format_3_fields 2 0 0x28 15 (1 * 2 ^ 13 + (mask * 2 ^ 0 + 0)) _ (omega arith) (omega arith) (omega arith) (omega arith) (omega arith) (omega arith) in
@@ -236,6 +244,7 @@ fields_some (ReadAsr asr rd) h = (refl, (number_some 5 rd h.1, (refl, (read_asr_
 fields_some (Membar mask) h = (refl, (refl, (refl, (refl, (refl, (number_some 7 mask h, tt))))))
 fields_some Stbar h = (refl, (refl, (refl, (refl, (refl, tt)))))
 fields_some (ReadPr reg rd) h = (refl, (number_some 5 rd h.1, (refl, (read_privileged_some reg h.0, (refl, tt)))))
+fields_some (ReadHpr reg rd) h = (refl, (number_some 5 rd h.1, (refl, (hyper_some reg h.0, (refl, tt)))))
 fields_some Flushw h = (refl, (refl, (refl, (refl, (refl, tt)))))
 fields_some (Movcc cond wide rd src) h = (refl, (number_some 5 rd h.1, (refl, (refl, (number_some 4 cond h.0, (refl, (source_some 11 src h.2, tt)))))))
 fields_some (Movr rcond rd rs1 src) h = (refl, (number_some 5 rd h.1, (refl, (number_some 5 rs1 h.2, (register_condition_some rcond h.0, (source_some 10 src h.3, tt))))))
@@ -243,6 +252,7 @@ fields_some (WriteAsr asr rs1 src) h = (refl, (write_asr_some asr h.0, (refl, (n
 fields_some Saved h = (refl, (refl, (refl, (refl, (refl, tt)))))
 fields_some Restored h = (refl, (refl, (refl, (refl, (refl, tt)))))
 fields_some (WritePr reg rs1 src) h = (refl, (write_privileged_some reg h.0, (refl, (number_some 5 rs1 h.1.0, (source_some 13 src h.1.1, tt)))))
+fields_some (WriteHpr reg rs1 src) h = (refl, (hyper_some reg h.0, (refl, (number_some 5 rs1 h.1.0, (source_some 13 src h.1.1, tt)))))
 fields_some (Jmpl rd rs1 src) h = (refl, (number_some 5 rd h.0, (refl, (number_some 5 rs1 h.1, (source_some 13 src h.2, tt)))))
 fields_some (Save rd rs1 src) h = (refl, (number_some 5 rd h.0, (refl, (number_some 5 rs1 h.1, (source_some 13 src h.2, tt)))))
 fields_some (Restore rd rs1 src) h = (refl, (number_some 5 rd h.0, (refl, (number_some 5 rs1 h.1, (source_some 13 src h.2, tt)))))

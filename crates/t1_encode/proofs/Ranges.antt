@@ -4,7 +4,7 @@ use Rattle.std.specs.Prelude.{Option, Some, None, IsSome, IsTrue, option_map}
 use Rattle.std.proofs.lemmas.Bool.Decides.{Decides-ltb}
 use Rattle.std.proofs.lemmas.Int.{ints}
 use Rattle.std.proofs.lemmas.Nat.{pow_pos}
-use Rattle.t1_insn.specs.Ranges.{IsSigned, IsSignedSource, IsUnsigned, IsNumberSource, IsCount, IsMem, IsSpace, IsLoadRegister, IsStoreRegister, has_form, is_register_condition, is_read_asr, is_write_asr, is_read_privileged, is_write_privileged}
+use Rattle.t1_insn.specs.Ranges.{IsSigned, IsSignedSource, IsUnsigned, IsNumberSource, IsCount, IsMem, IsSpace, IsLoadRegister, IsStoreRegister, has_form, is_register_condition, is_read_asr, is_write_asr, is_read_privileged, is_hyperprivileged, is_write_privileged}
 use Rattle.t1_insn.specs.declared.operand.Src.{Src}
 use Rattle.t1_insn.specs.declared.operand.Src.TheVariants.{Reg, Imm}
 use Rattle.t1_insn.specs.declared.operand.Mem.{Mem}
@@ -15,7 +15,7 @@ use Rattle.t1_insn.specs.declared.operation.LoadKind.{LoadKind}
 use Rattle.t1_insn.specs.declared.operation.LoadKind.TheVariants as load
 use Rattle.t1_insn.specs.declared.operation.StoreKind.{StoreKind}
 use Rattle.t1_insn.specs.declared.operation.StoreKind.TheVariants as store
-use Rattle.t1_encode.specs.Fields.{number_bits, signed_bits, unsigned_bits, source_bits, number_source_bits, count_bits, mem_bits, space_bits, load_register_bits, store_register_bits, register_condition_bits, read_asr_bits, write_asr_bits, read_privileged_bits, write_privileged_bits}
+use Rattle.t1_encode.specs.Fields.{number_bits, signed_bits, unsigned_bits, source_bits, number_source_bits, count_bits, mem_bits, space_bits, load_register_bits, store_register_bits, register_condition_bits, read_asr_bits, write_asr_bits, read_privileged_bits, hyper_bits, write_privileged_bits}
 use Rattle.t1_encode.specs.Numbers.{alu_number}
 use Rattle.t1_encode.proofs.Parts.{word_some, allowed_some}
 
@@ -99,6 +99,10 @@ write_asr_some n h = allowed_some (is_write_asr n) n h
 pub read_privileged_some : (n : ℕ) → IsTrue (is_read_privileged n) → IsSome (read_privileged_bits n)
 unfolding read_privileged_bits
 read_privileged_some n h = allowed_some (is_read_privileged n) n h
+
+pub hyper_some : (n : ℕ) → IsTrue (is_hyperprivileged n) → IsSome (hyper_bits n)
+unfolding hyper_bits
+hyper_some n h = allowed_some (is_hyperprivileged n) n h
 
 pub write_privileged_some : (n : ℕ) → IsTrue (is_write_privileged n) → IsSome (write_privileged_bits n)
 unfolding write_privileged_bits

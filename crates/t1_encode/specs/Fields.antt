@@ -6,7 +6,7 @@ use Rattle.t1_insn.specs.declared.operand.Mem.{Mem}
 use Rattle.t1_insn.specs.declared.operand.Mem.TheVariants.{Plain, Alt, AltReg}
 use Rattle.t1_insn.specs.declared.operation.LoadKind.{LoadKind}
 use Rattle.t1_insn.specs.declared.operation.StoreKind.{StoreKind}
-use Rattle.t1_insn.specs.Ranges.{is_register_condition, is_read_asr, is_write_asr, is_read_privileged, is_write_privileged}
+use Rattle.t1_insn.specs.Ranges.{is_register_condition, is_read_asr, is_write_asr, is_read_privileged, is_hyperprivileged, is_write_privileged}
 use Rattle.t1_decode.specs.Forms.{is_twin_load, is_twin_store}
 
 -- a field at its lowest bit, and the fields below it
@@ -59,6 +59,9 @@ write_asr_bits asr = allowed (is_write_asr asr) asr
 
 unfoldable pub read_privileged_bits : ℕ → Option ℕ
 read_privileged_bits reg = allowed (is_read_privileged reg) reg
+
+unfoldable pub hyper_bits : ℕ → Option ℕ
+hyper_bits reg = allowed (is_hyperprivileged reg) reg
 
 unfoldable pub write_privileged_bits : ℕ → Option ℕ
 write_privileged_bits reg = allowed (is_write_privileged reg) reg

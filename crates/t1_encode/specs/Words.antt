@@ -2,8 +2,8 @@
 -- each at its lowest bit. Reserved bits are 0 (SPARC V9, appendices A and E, and UltraSPARC Architecture 2005).
 use Rattle.std.specs.Prelude.{ℕ, ◌/◌, ◌%◌, ◌^◌, List, [], ◌∷◌, Bool, true, false, Option, Some, option_map}
 use Rattle.t1_insn.specs.declared.instruction.Insn.{Insn}
-use Rattle.t1_insn.specs.declared.instruction.Insn.TheVariants.{Illegal, FpOff, Stbar, Flushw, Saved, Restored, Done, Retry, Bpcc, Bicc, Bpr, Sethi, Call, Membar, Alu, Shift, ReadAsr, WriteAsr, ReadPr, WritePr, Movcc, Movr, Jmpl, Return, Flush, Trap, Save, Restore, Load, Store, Ldstub, Swap, Prefetch, Cas}
-use Rattle.t1_encode.specs.Fields.{word_of, number_bits, signed_bits, flag_bits, codes_bits, register_condition_bits, read_asr_bits, write_asr_bits, read_privileged_bits, write_privileged_bits, source_bits, number_source_bits, count_bits, mem_bits, space_bits, load_register_bits, store_register_bits}
+use Rattle.t1_insn.specs.declared.instruction.Insn.TheVariants.{Illegal, FpOff, Stbar, Flushw, Saved, Restored, Done, Retry, Bpcc, Bicc, Bpr, Sethi, Call, Membar, Alu, Shift, ReadAsr, WriteAsr, ReadPr, ReadHpr, WritePr, WriteHpr, Movcc, Movr, Jmpl, Return, Flush, Trap, Save, Restore, Load, Store, Ldstub, Swap, Prefetch, Cas}
+use Rattle.t1_encode.specs.Fields.{word_of, number_bits, signed_bits, flag_bits, codes_bits, register_condition_bits, read_asr_bits, write_asr_bits, read_privileged_bits, hyper_bits, write_privileged_bits, source_bits, number_source_bits, count_bits, mem_bits, space_bits, load_register_bits, store_register_bits}
 use Rattle.t1_encode.specs.Numbers.{alu_number, shift_number, load_number, store_number, access_number}
 
 -- format 3: op, rd, op3, rs1, and from bit 13 down the second operand
@@ -30,6 +30,7 @@ fields_of (ReadAsr asr rd) = format_3 2 (number_bits 5 rd) (Some 0x28) (read_asr
 fields_of (Membar mask) = (30, Some 2) ∷ (25, Some 0) ∷ (19, Some 0x28) ∷ (14, Some 15) ∷ (13, Some 1) ∷ (0, number_bits 7 mask) ∷ []
 fields_of Stbar = format_3 2 (Some 0) (Some 0x28) (Some 15) (Some 0)
 fields_of (ReadPr reg rd) = format_3 2 (number_bits 5 rd) (Some 0x2a) (read_privileged_bits reg) (Some 0)
+fields_of (ReadHpr reg rd) = format_3 2 (number_bits 5 rd) (Some 0x29) (hyper_bits reg) (Some 0)
 fields_of Flushw = format_3 2 (Some 0) (Some 0x2b) (Some 0) (Some 0)
 fields_of (Movcc cond wide rd src) = (30, Some 2) ∷ (25, number_bits 5 rd) ∷ (19, Some 0x2c) ∷ (18, Some 1) ∷ (14, number_bits 4 cond) ∷ (11, Some (codes_bits wide)) ∷ (0, source_bits 11 src) ∷ []
 fields_of (Movr rcond rd rs1 src) = (30, Some 2) ∷ (25, number_bits 5 rd) ∷ (19, Some 0x2f) ∷ (14, number_bits 5 rs1) ∷ (10, register_condition_bits rcond) ∷ (0, source_bits 10 src) ∷ []
@@ -37,6 +38,7 @@ fields_of (WriteAsr asr rs1 src) = format_3 2 (write_asr_bits asr) (Some 0x30) (
 fields_of Saved = format_3 2 (Some 0) (Some 0x31) (Some 0) (Some 0)
 fields_of Restored = format_3 2 (Some 1) (Some 0x31) (Some 0) (Some 0)
 fields_of (WritePr reg rs1 src) = format_3 2 (write_privileged_bits reg) (Some 0x32) (number_bits 5 rs1) (source_bits 13 src)
+fields_of (WriteHpr reg rs1 src) = format_3 2 (hyper_bits reg) (Some 0x33) (number_bits 5 rs1) (source_bits 13 src)
 fields_of (Jmpl rd rs1 src) = format_3 2 (number_bits 5 rd) (Some 0x38) (number_bits 5 rs1) (source_bits 13 src)
 fields_of (Return rs1 src) = format_3 2 (Some 0) (Some 0x39) (number_bits 5 rs1) (source_bits 13 src)
 fields_of (Trap cond wide rs1 src) = (30, Some 2) ∷ (25, number_bits 4 cond) ∷ (19, Some 0x3a) ∷ (14, number_bits 5 rs1) ∷ (11, Some (codes_bits wide)) ∷ (0, number_source_bits 8 src) ∷ []

@@ -1,6 +1,6 @@
 //! The fields of a word; `None` where a value has more bits than its field.
 ghost use Rattle.std.specs.Prelude.{◌≡◌, ◌<◌, ◌≤◌, ◌^◌, IfSome};
-ghost use Rattle.t1_encode.specs.Fields.{number_bits, signed_bits, unsigned_bits, flag_bits, codes_bits, register_condition_bits, read_asr_bits, write_asr_bits, read_privileged_bits, write_privileged_bits, source_bits, number_source_bits, mem_bits, space_bits, load_register_bits, store_register_bits};
+ghost use Rattle.t1_encode.specs.Fields.{number_bits, signed_bits, unsigned_bits, flag_bits, codes_bits, register_condition_bits, read_asr_bits, write_asr_bits, read_privileged_bits, hyper_bits, write_privileged_bits, source_bits, number_source_bits, mem_bits, space_bits, load_register_bits, store_register_bits};
 
 use t1_insn::{LoadKind, Mem, Src, StoreKind};
 
@@ -185,7 +185,19 @@ pub fn read_asr(asr: u8) -> Option<u32>
     }
 }
 
-/// One that is written.
+/// A hyperprivileged register: HPSTATE, HTSTATE or HTBA.
+#[tactic(auto, unfolding(crate::specs::Fields::hyper_bits))]
+pub fn hyper(reg: u8) -> Option<u32>
+    ensures value { result ≡ hyper_bits reg }
+    ensures small { IfSome result (λ n. n < 32) }
+{
+    match reg {
+        0 | 1 | 5 => Some(reg as u32),
+        _ => None,
+    }
+}
+
+/// A privileged register that is written.
 #[tactic(auto, unfolding(crate::specs::Fields::write_asr_bits))]
 pub fn write_asr(asr: u8) -> Option<u32>
     ensures value { result ≡ write_asr_bits asr }

@@ -8,7 +8,7 @@ ghost use Rattle.t1_encode.specs.Words.{format_3 as fields_3, encoded};
 
 use crate::fields::{
     codes, condition, flag, load_register, number, number_source, operand, read_asr,
-    read_privileged, register, register_condition, signed, source, space, store_register,
+    hyper, read_privileged, register, register_condition, signed, source, space, store_register,
     write_asr, write_privileged,
 };
 use crate::numbers::{access_number, alu_number, load_number, shift_number, store_number};
@@ -69,6 +69,9 @@ fn word(insn: &Insn) -> Option<u32>
         Insn::ReadPr { reg, rd } => {
             Some(format_3(2, register(rd)?, 0x2a, read_privileged(reg)?, 0))
         }
+        Insn::ReadHpr { reg, rd } => {
+            Some(format_3(2, register(rd)?, 0x29, hyper(reg)?, 0))
+        }
         Insn::Flushw => Some(format_3(2, 0, 0x2b, 0, 0)),
         Insn::Movcc {
             cond,
@@ -86,6 +89,7 @@ fn word(insn: &Insn) -> Option<u32>
         Insn::Saved => Some(format_3(2, 0, 0x31, 0, 0)),
         Insn::Restored => Some(format_3(2, 1, 0x31, 0, 0)),
         Insn::WritePr { reg, rs1, src } => operands(write_privileged(reg)?, 0x32, rs1, src),
+        Insn::WriteHpr { reg, rs1, src } => operands(hyper(reg)?, 0x33, rs1, src),
         Insn::Jmpl { rd, rs1, src } => operands(register(rd)?, 0x38, rs1, src),
         Insn::Return { rs1, src } => operands(0, 0x39, rs1, src),
         Insn::Trap {

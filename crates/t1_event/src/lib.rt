@@ -12,6 +12,7 @@
 #![tactic(auto)]
 
 pub mod commit;
+pub mod destination;
 pub mod item;
 pub mod laws;
 pub mod report;
@@ -20,6 +21,7 @@ mod tests;
 pub mod trace;
 
 pub use commit::Commit;
+pub use destination::dest_of;
 pub use item::{How, Item, ItemKind};
 pub use report::{Config, Place, Report};
 pub use trace::{Ending, Trace};

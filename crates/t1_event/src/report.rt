@@ -3,11 +3,14 @@
 use crate::commit::Commit;
 use crate::trace::Trace;
 use t1_elf::{Image, Listed};
+use t1_num::ChipKind;
 
-/// The machine of a run: cores, strands of each core, bytes of RAM, sets of each L2 bank, and the
-/// budget of each strand in units.
+/// The machine of a run: the chip, whether its strands have a hyperprivileged mode, cores, strands of
+/// each core, bytes of RAM, sets of each L2 bank, and the budget of each strand in units.
 #[derive(Clone, Copy, Debug, PartialEq, Eq)]
 pub struct Config {
+    pub chip: ChipKind,
+    pub hyper: bool,
     pub cores: u8,
     pub strands: u8,
     pub ram: u64,

@@ -177,7 +177,7 @@ module _ (w : Setup) (setup : IsSetup w) (p : Parts) (f : Fit w p) where
       let lk : k < x.item.size = (let l = cv.0 in let u = cv.1 in omega (arith, l, u)) in
       let back : x.item.addr + k ≡ a = (let l = cv.0 in omega (arith, l)) in
       let m : List ℕ = memory_at w.image.ram (log_of w p.crossbar.admitted) n in
-      let dest : op_dest w.shape s.request.op < banks w.shape =
+      let dest : op_dest w.config.chip s.request.op < banks w.config.chip =
       by (place w setup p.crossbar.admitted (served w setup p f) (right w setup p f) n s b.is) (omega (arith, addr, ram)) in
       let old : s.old ≡ number_at m x.item.addr x.item.size =
       old_is w setup p.crossbar.admitted (served w setup p f) (right w setup p f) n s b.is dest
@@ -187,7 +187,7 @@ module _ (w : Setup) (setup : IsSetup w) (p : Parts) (f : Fit w p) where
       ∙ (ap (λ (v : ℕ). get_or m v 0) back
       ∙ ap (λ (log : List Commit). get_or (memory_at w.image.ram log n) a 0) (sym (admitted w setup p f).log)))
     where
-      by : {i : ℕ} {s : Served} → IsOf w setup p.crossbar.admitted (served w setup p f) (right w setup p f) i s → op_addr s.request.op < length w.image.ram → op_dest w.shape s.request.op < banks w.shape
+      by : {i : ℕ} {s : Served} → IsOf w setup p.crossbar.admitted (served w setup p f) (right w setup p f) i s → op_addr s.request.op < length w.image.ram → op_dest w.config.chip s.request.op < banks w.config.chip
       by (OfBank l) below = l
       by (OfBridge d io) below = absurd (omega (arith, io.0, below, ram_small))
 
@@ -219,7 +219,7 @@ module _ (w : Setup) (setup : IsSetup w) (p : Parts) (f : Fit w p) where
       let g = named_by x n c is nm in
       let a : Served = g.behind.access in
       record {
-        dest = ap (λ (v : Commit). v.dest) g.is ∙ ap (λ (v : ℕ). dest_of w.shape v) (addr_is x n c.seen g.behind access);
+        dest = ap (λ (v : Commit). v.dest) g.is ∙ ap (λ (v : ℕ). dest_of w.config.chip v) (addr_is x n c.seen g.behind access);
         op = ap (λ (v : Commit). v.op) g.is ∙ (g.behind.op ∙ ap (λ (v : Commit). op_of x.item v.way x.item.kind) (sym g.is));
         old = ap (λ (v : Commit). v.old) g.is ∙ kept_as a.request.op a.old a.way x.item x.item.kind g.behind.op access g.behind.got;
       }
@@ -229,20 +229,20 @@ module _ (w : Setup) (setup : IsSetup w) (p : Parts) (f : Fit w p) where
   at_admitted : (n : ℕ) (c : Commit) → slice_get p.crossbar.log n ≡ Some c → slice_get (log_of w p.crossbar.admitted) n ≡ Some c
   at_admitted n c is = ap (λ (l : List Commit). slice_get l n) (sym (admitted w setup p f).log) ∙ is
 
-  pub by_bank : (n : ℕ) (c : Commit) → slice_get p.crossbar.log n ≡ Some c → c.dest < banks w.shape → IsBankCommit (run_of w (traces_of w p) p.crossbar.log) n c
+  pub by_bank : (n : ℕ) (c : Commit) → slice_get p.crossbar.log n ≡ Some c → c.dest < banks w.config.chip → IsBankCommit (run_of w (traces_of w p) p.crossbar.log) n c
   by_bank n c is l =
       subst (λ (log : List Commit). IsBankCommit (run_of w (traces_of w p) log) n c) (sym (admitted w setup p f).log)
       (bank_commit w setup p.crossbar.admitted (served w setup p f) (right w setup p f) (traces_of w p) n c (at_admitted n c is) l)
 
-  pub by_bridge : (n : ℕ) (c : Commit) → slice_get p.crossbar.log n ≡ Some c → c.dest ≡ io_bridge w.shape → IsBridgeCommit c
+  pub by_bridge : (n : ℕ) (c : Commit) → slice_get p.crossbar.log n ≡ Some c → c.dest ≡ io_bridge w.config.chip → IsBridgeCommit c
   by_bridge n c is e = bridge_commit w setup p.crossbar.admitted (served w setup p f) (right w setup p f) n c (at_admitted n c is) e
 
   -- the way of a fill
-  was_sent : (n : ℕ) (a : Served) → slice_get p.crossbar.admitted n ≡ Some a → IsIn a.request ((p.core a.request.core).sent (op_dest w.shape a.request.op))
+  was_sent : (n : ℕ) (a : Served) → slice_get p.crossbar.admitted n ≡ Some a → IsIn a.request ((p.core a.request.core).sent (op_dest w.config.chip a.request.op))
   was_sent n a is =
-      in_prefix a.request (mine w.shape a.request.core (op_dest w.shape a.request.op) p.crossbar.admitted) ((p.core a.request.core).sent (op_dest w.shape a.request.op))
-      (admitted_sent w setup p f a.request.core (op_dest w.shape a.request.op))
-      (in_mine w.shape a.request.core (op_dest w.shape a.request.op) p.crossbar.admitted n a is refl refl)
+      in_prefix a.request (mine w.config.chip a.request.core (op_dest w.config.chip a.request.op) p.crossbar.admitted) ((p.core a.request.core).sent (op_dest w.config.chip a.request.op))
+      (admitted_sent w setup p f a.request.core (op_dest w.config.chip a.request.op))
+      (in_mine w.config.chip a.request.core (op_dest w.config.chip a.request.op) p.crossbar.admitted n a is refl refl)
 
   pub filled_rightly : (n : ℕ) (c : Commit) → slice_get p.crossbar.log n ≡ Some c → IsFilledRightly (run_of w (traces_of w p) p.crossbar.log) n c
   filled_rightly n c is cache line way il iw =
@@ -259,18 +259,18 @@ module _ (w : Setup) (setup : IsSetup w) (p : Parts) (f : Fit w p) where
       let g = filled_by_bank w setup all s r n a cache line way at.1 fl wy in
       let k = kept w setup p f a.request.core (r n a at.1).core in
       let sent = was_sent n a at.1 in
-      let asked : asked_way a.request.op ≡ victim_at w.shape w.config.strands w.image.ram log a.request.core cache a.request.seen line =
-      k.ways (op_dest w.shape a.request.op) a.request cache line sent fl
-      ∙ victim_is w setup p f a.request.core a.request.seen cache line (k.sent_times (op_dest w.shape a.request.op) a.request sent) in
-      let lay : Layout = layout w.shape cache in
-      let own : List (Option ℕ) = own_at w.shape (op_dest w.shape a.request.op) w.config.strands (log_of w all) a.request.core cache n in
+      let asked : asked_way a.request.op ≡ victim_at w.config.chip w.config.strands w.image.ram log a.request.core cache a.request.seen line =
+      k.ways (op_dest w.config.chip a.request.op) a.request cache line sent fl
+      ∙ victim_is w setup p f a.request.core a.request.seen cache line (k.sent_times (op_dest w.config.chip a.request.op) a.request sent) in
+      let lay : Layout = layout w.config.chip cache in
+      let own : List (Option ℕ) = own_at w.config.chip (op_dest w.config.chip a.request.op) w.config.strands (log_of w all) a.request.core cache n in
       let core_is : core_of w.config.strands (record_of w a) ≡ a.request.core = div-mul-add a.request.core w.config.strands a.request.strand (r n a at.1).strand in
-      let slot : slot_of lay own line ≡ slot_of lay (directory_at w.shape w.config.strands log a.request.core cache n) line =
-      subst (λ (i : ℕ). slot_of lay (own_at w.shape (op_dest w.shape a.request.op) w.config.strands (log_of w all) i cache n) line ≡ slot_of lay (directory_at w.shape w.config.strands (log_of w all) i cache n) line) core_is
-      (slot_whole w.shape w.config.strands w.config.cores (log_of w all) (ruled w setup all s r) (fills w setup all s r) n (record_of w a) cache line g.of)
-      ∙ ap (λ (l : List Commit). slot_of lay (directory_at w.shape w.config.strands l a.request.core cache n) line) (sym (admitted w setup p f).log) in
+      let slot : slot_of lay own line ≡ slot_of lay (directory_at w.config.chip w.config.strands log a.request.core cache n) line =
+      subst (λ (i : ℕ). slot_of lay (own_at w.config.chip (op_dest w.config.chip a.request.op) w.config.strands (log_of w all) i cache n) line ≡ slot_of lay (directory_at w.config.chip w.config.strands (log_of w all) i cache n) line) core_is
+      (slot_whole w.config.chip w.config.strands w.config.cores (log_of w all) (ruled w setup all s r) (fills w setup all s r) n (record_of w a) cache line g.of)
+      ∙ ap (λ (l : List Commit). slot_of lay (directory_at w.config.chip w.config.strands l a.request.core cache n) line) (sym (admitted w setup p f).log) in
       g.way_is
       ∙ (ap (λ (o : Option ℕ). way_for lay o (asked_way a.request.op)) slot
-      ∙ (ap (λ (v : ℕ). way_for lay (slot_of lay (directory_at w.shape w.config.strands log a.request.core cache n) line) v) asked
-      ∙ (ap (λ (t : ℕ). fill_way_in w.shape cache (directory_at w.shape w.config.strands log a.request.core cache n) line (victim_at w.shape w.config.strands w.image.ram log a.request.core cache t line)) (sym seen)
-      ∙ ap (λ (i : ℕ). fill_way_in w.shape cache (directory_at w.shape w.config.strands log i cache n) line (victim_at w.shape w.config.strands w.image.ram log i cache c.seen line)) (sym core))))
+      ∙ (ap (λ (v : ℕ). way_for lay (slot_of lay (directory_at w.config.chip w.config.strands log a.request.core cache n) line) v) asked
+      ∙ (ap (λ (t : ℕ). fill_way_in w.config.chip cache (directory_at w.config.chip w.config.strands log a.request.core cache n) line (victim_at w.config.chip w.config.strands w.image.ram log a.request.core cache t line)) (sym seen)
+      ∙ ap (λ (i : ℕ). fill_way_in w.config.chip cache (directory_at w.config.chip w.config.strands log i cache n) line (victim_at w.config.chip w.config.strands w.image.ram log i cache c.seen line)) (sym core))))

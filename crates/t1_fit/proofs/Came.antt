@@ -129,26 +129,26 @@ pub record IsPosted (w : Setup) (all : List Served) (n : ℕ) (a : Served) : Typ
   pub line : a.line ≡ reply_line (memory_at w.image.ram (log_of w all) n) a.request.op a.way
 
 post_same : (w : Setup) (m : List ℕ) (n c : ℕ) (cache : Cache) (slots : List (Option Line)) (a : Served) → a.request.strand < w.config.strands → a.line ≡ reply_line m a.request.op a.way
-    → with_post w.shape c cache (post_of w.config.strands m n c (record_of w a)) slots ≡ with_post w.shape c cache (packet_to c n a) slots
+    → with_post w.config.chip c cache (post_of w.config.strands m n c (record_of w a)) slots ≡ with_post w.config.chip c cache (packet_to c n a) slots
 post_same w m n c cache slots a below line =
     let core : core_of w.config.strands (record_of w a) ≡ a.request.core = div-mul-add a.request.core w.config.strands a.request.strand below in
-    let left : List (Option Line) = with_kills w.shape c cache (kills_to c a.kills) slots in
-    ap (λ (k : ℕ). with_post w.shape c cache (packet_of n (if k == c then Some (reply_of w.config.strands m (record_of w a)) else None) (kills_to c a.kills)) slots) core
+    let left : List (Option Line) = with_kills w.config.chip c cache (kills_to c a.kills) slots in
+    ap (λ (k : ℕ). with_post w.config.chip c cache (packet_of n (if k == c then Some (reply_of w.config.strands m (record_of w a)) else None) (kills_to c a.kills)) slots) core
     ∙ elim (cases_Bool (a.request.core == c)) [
       | inl e ↦ rw e (
-          ap (λ (l : List ℕ). with_answer w.shape cache (plain_op a.request.op a.old a.way) a.way l left) (plain_line m a.request.op a.old a.way ∙ sym line)
-          ∙ plain_answer w.shape cache a.request.op a.old a.way a.line left)
-      | inr e ↦ rw e (kills_alone w.shape n c cache (kills_to c a.kills) slots ∙ sym (kills_alone w.shape n c cache (kills_to c a.kills) slots))
+          ap (λ (l : List ℕ). with_answer w.config.chip cache (plain_op a.request.op a.old a.way) a.way l left) (plain_line m a.request.op a.old a.way ∙ sym line)
+          ∙ plain_answer w.config.chip cache a.request.op a.old a.way a.line left)
+      | inr e ↦ rw e (kills_alone w.config.chip n c cache (kills_to c a.kills) slots ∙ sym (kills_alone w.config.chip n c cache (kills_to c a.kills) slots))
     ]
 
 pointers_same : (w : Setup) (m : List ℕ) (n c : ℕ) (cache : Cache) (pointers : List ℕ) (a : Served) → a.request.strand < w.config.strands
-    → pointers_with_post w.shape cache (post_of w.config.strands m n c (record_of w a)) pointers ≡ pointers_with_post w.shape cache (packet_to c n a) pointers
+    → pointers_with_post w.config.chip cache (post_of w.config.strands m n c (record_of w a)) pointers ≡ pointers_with_post w.config.chip cache (packet_to c n a) pointers
 pointers_same w m n c cache pointers a below =
     let core : core_of w.config.strands (record_of w a) ≡ a.request.core = div-mul-add a.request.core w.config.strands a.request.strand below in
-    ap (λ (k : ℕ). pointers_with_post w.shape cache (packet_of n (if k == c then Some (reply_of w.config.strands m (record_of w a)) else None) (kills_to c a.kills)) pointers) core
+    ap (λ (k : ℕ). pointers_with_post w.config.chip cache (packet_of n (if k == c then Some (reply_of w.config.strands m (record_of w a)) else None) (kills_to c a.kills)) pointers) core
     ∙ elim (cases_Bool (a.request.core == c)) [
-      | inl e ↦ rw e (plain_pointers w.shape cache a.request.op a.old a.way pointers)
-      | inr e ↦ rw e (pointers_alone w.shape n cache (kills_to c a.kills) pointers ∙ sym (pointers_alone w.shape n cache (kills_to c a.kills) pointers))
+      | inl e ↦ rw e (plain_pointers w.config.chip cache a.request.op a.old a.way pointers)
+      | inr e ↦ rw e (pointers_alone w.config.chip n cache (kills_to c a.kills) pointers ∙ sym (pointers_alone w.config.chip n cache (kills_to c a.kills) pointers))
     ]
 
 -- where an access posts a packet, so does its record
@@ -169,47 +169,47 @@ post_some w m n c a q below e =
 module _ (w : Setup) (all : List Served) (right : (n : ℕ) (a : Served) → slice_get all n ≡ Some a → IsPosted w all n a) (c : ℕ) (cache : Cache) where
   -- the caches after the posts of the first t commits
   pub after_posts : (t : ℕ) → t ≤ length all
-      → slots_after w.shape c cache (no_lines w.shape cache) (posts_from c 0 (take t all)) ≡ l1_at w.shape w.config.strands w.image.ram (log_of w all) c cache t
+      → slots_after w.config.chip c cache (no_lines w.config.chip cache) (posts_from c 0 (take t all)) ≡ l1_at w.config.chip w.config.strands w.image.ram (log_of w all) c cache t
   after_posts zero le = refl
   after_posts (suc t) le = by (slice_get all t) refl (after_posts t (omega (arith, le)))
     where
       by : (o : Option Served) → slice_get all t ≡ o
-          → slots_after w.shape c cache (no_lines w.shape cache) (posts_from c 0 (take t all)) ≡ l1_at w.shape w.config.strands w.image.ram (log_of w all) c cache t
-          → slots_after w.shape c cache (no_lines w.shape cache) (posts_from c 0 (take (suc t) all)) ≡ l1_at w.shape w.config.strands w.image.ram (log_of w all) c cache (suc t)
+          → slots_after w.config.chip c cache (no_lines w.config.chip cache) (posts_from c 0 (take t all)) ≡ l1_at w.config.chip w.config.strands w.image.ram (log_of w all) c cache t
+          → slots_after w.config.chip c cache (no_lines w.config.chip cache) (posts_from c 0 (take (suc t) all)) ≡ l1_at w.config.chip w.config.strands w.image.ram (log_of w all) c cache (suc t)
       by None is before =
-          ap (λ (l : List Served). slots_after w.shape c cache (no_lines w.shape cache) (posts_from c 0 l)) (take_past all t is)
-          ∙ (before ∙ ap (λ (o : Option Commit). with_post w.shape c cache (post_by w.config.strands (memory_at w.image.ram (log_of w all) t) t c o) (l1_at w.shape w.config.strands w.image.ram (log_of w all) c cache t)) (sym (log_past w all t is)))
+          ap (λ (l : List Served). slots_after w.config.chip c cache (no_lines w.config.chip cache) (posts_from c 0 l)) (take_past all t is)
+          ∙ (before ∙ ap (λ (o : Option Commit). with_post w.config.chip c cache (post_by w.config.strands (memory_at w.image.ram (log_of w all) t) t c o) (l1_at w.config.chip w.config.strands w.image.ram (log_of w all) c cache t)) (sym (log_past w all t is)))
       by (Some a) is before =
           let size : 0 + length (take t all) ≡ t = omega (arith, length-take t all, le) in
           let one : posts_from c 0 (take t all ++ a ∷ []) ≡ posts_from c 0 (take t all) ++ posted_before (packet_to c t a) [] =
           posts-append c 0 (take t all) (a ∷ []) ∙ ap (λ (n : ℕ). posts_from c 0 (take t all) ++ posted_before (packet_to c n a) []) size in
-          ap (λ (l : List Served). slots_after w.shape c cache (no_lines w.shape cache) (posts_from c 0 l)) (take_next all t a is)
-          ∙ (ap (λ (l : List Packet). slots_after w.shape c cache (no_lines w.shape cache) l) one
-          ∙ (slots-append w.shape c cache (no_lines w.shape cache) (posts_from c 0 (take t all)) (posted_before (packet_to c t a) [])
-          ∙ (slots_one w.shape c cache (slots_after w.shape c cache (no_lines w.shape cache) (posts_from c 0 (take t all))) (packet_to c t a)
-          ∙ (ap (λ (l : List (Option Line)). with_post w.shape c cache (packet_to c t a) l) before
-          ∙ (sym (post_same w (memory_at w.image.ram (log_of w all) t) t c cache (l1_at w.shape w.config.strands w.image.ram (log_of w all) c cache t) a (right t a is).strand (right t a is).line)
-          ∙ ap (λ (o : Option Commit). with_post w.shape c cache (post_by w.config.strands (memory_at w.image.ram (log_of w all) t) t c o) (l1_at w.shape w.config.strands w.image.ram (log_of w all) c cache t)) (sym (log_at w all t a is)))))))
+          ap (λ (l : List Served). slots_after w.config.chip c cache (no_lines w.config.chip cache) (posts_from c 0 l)) (take_next all t a is)
+          ∙ (ap (λ (l : List Packet). slots_after w.config.chip c cache (no_lines w.config.chip cache) l) one
+          ∙ (slots-append w.config.chip c cache (no_lines w.config.chip cache) (posts_from c 0 (take t all)) (posted_before (packet_to c t a) [])
+          ∙ (slots_one w.config.chip c cache (slots_after w.config.chip c cache (no_lines w.config.chip cache) (posts_from c 0 (take t all))) (packet_to c t a)
+          ∙ (ap (λ (l : List (Option Line)). with_post w.config.chip c cache (packet_to c t a) l) before
+          ∙ (sym (post_same w (memory_at w.image.ram (log_of w all) t) t c cache (l1_at w.config.chip w.config.strands w.image.ram (log_of w all) c cache t) a (right t a is).strand (right t a is).line)
+          ∙ ap (λ (o : Option Commit). with_post w.config.chip c cache (post_by w.config.strands (memory_at w.image.ram (log_of w all) t) t c o) (l1_at w.config.chip w.config.strands w.image.ram (log_of w all) c cache t)) (sym (log_at w all t a is)))))))
 
   pub after_pointers : (t : ℕ) → t ≤ length all
-      → pointers_after w.shape cache (no_pointers w.shape cache) (posts_from c 0 (take t all)) ≡ pointers_at w.shape w.config.strands w.image.ram (log_of w all) c cache t
+      → pointers_after w.config.chip cache (no_pointers w.config.chip cache) (posts_from c 0 (take t all)) ≡ pointers_at w.config.chip w.config.strands w.image.ram (log_of w all) c cache t
   after_pointers zero le = refl
   after_pointers (suc t) le = by (slice_get all t) refl (after_pointers t (omega (arith, le)))
     where
       by : (o : Option Served) → slice_get all t ≡ o
-          → pointers_after w.shape cache (no_pointers w.shape cache) (posts_from c 0 (take t all)) ≡ pointers_at w.shape w.config.strands w.image.ram (log_of w all) c cache t
-          → pointers_after w.shape cache (no_pointers w.shape cache) (posts_from c 0 (take (suc t) all)) ≡ pointers_at w.shape w.config.strands w.image.ram (log_of w all) c cache (suc t)
+          → pointers_after w.config.chip cache (no_pointers w.config.chip cache) (posts_from c 0 (take t all)) ≡ pointers_at w.config.chip w.config.strands w.image.ram (log_of w all) c cache t
+          → pointers_after w.config.chip cache (no_pointers w.config.chip cache) (posts_from c 0 (take (suc t) all)) ≡ pointers_at w.config.chip w.config.strands w.image.ram (log_of w all) c cache (suc t)
       by None is before =
-          ap (λ (l : List Served). pointers_after w.shape cache (no_pointers w.shape cache) (posts_from c 0 l)) (take_past all t is)
-          ∙ (before ∙ ap (λ (o : Option Commit). pointers_with_post w.shape cache (post_by w.config.strands (memory_at w.image.ram (log_of w all) t) t c o) (pointers_at w.shape w.config.strands w.image.ram (log_of w all) c cache t)) (sym (log_past w all t is)))
+          ap (λ (l : List Served). pointers_after w.config.chip cache (no_pointers w.config.chip cache) (posts_from c 0 l)) (take_past all t is)
+          ∙ (before ∙ ap (λ (o : Option Commit). pointers_with_post w.config.chip cache (post_by w.config.strands (memory_at w.image.ram (log_of w all) t) t c o) (pointers_at w.config.chip w.config.strands w.image.ram (log_of w all) c cache t)) (sym (log_past w all t is)))
       by (Some a) is before =
           let size : 0 + length (take t all) ≡ t = omega (arith, length-take t all, le) in
           let one : posts_from c 0 (take t all ++ a ∷ []) ≡ posts_from c 0 (take t all) ++ posted_before (packet_to c t a) [] =
           posts-append c 0 (take t all) (a ∷ []) ∙ ap (λ (n : ℕ). posts_from c 0 (take t all) ++ posted_before (packet_to c n a) []) size in
-          ap (λ (l : List Served). pointers_after w.shape cache (no_pointers w.shape cache) (posts_from c 0 l)) (take_next all t a is)
-          ∙ (ap (λ (l : List Packet). pointers_after w.shape cache (no_pointers w.shape cache) l) one
-          ∙ (pointers-append w.shape cache (no_pointers w.shape cache) (posts_from c 0 (take t all)) (posted_before (packet_to c t a) [])
-          ∙ (pointers_one w.shape cache (pointers_after w.shape cache (no_pointers w.shape cache) (posts_from c 0 (take t all))) (packet_to c t a)
-          ∙ (ap (λ (l : List ℕ). pointers_with_post w.shape cache (packet_to c t a) l) before
-          ∙ (sym (pointers_same w (memory_at w.image.ram (log_of w all) t) t c cache (pointers_at w.shape w.config.strands w.image.ram (log_of w all) c cache t) a (right t a is).strand)
-          ∙ ap (λ (o : Option Commit). pointers_with_post w.shape cache (post_by w.config.strands (memory_at w.image.ram (log_of w all) t) t c o) (pointers_at w.shape w.config.strands w.image.ram (log_of w all) c cache t)) (sym (log_at w all t a is)))))))
+          ap (λ (l : List Served). pointers_after w.config.chip cache (no_pointers w.config.chip cache) (posts_from c 0 l)) (take_next all t a is)
+          ∙ (ap (λ (l : List Packet). pointers_after w.config.chip cache (no_pointers w.config.chip cache) l) one
+          ∙ (pointers-append w.config.chip cache (no_pointers w.config.chip cache) (posts_from c 0 (take t all)) (posted_before (packet_to c t a) [])
+          ∙ (pointers_one w.config.chip cache (pointers_after w.config.chip cache (no_pointers w.config.chip cache) (posts_from c 0 (take t all))) (packet_to c t a)
+          ∙ (ap (λ (l : List ℕ). pointers_with_post w.config.chip cache (packet_to c t a) l) before
+          ∙ (sym (pointers_same w (memory_at w.image.ram (log_of w all) t) t c cache (pointers_at w.config.chip w.config.strands w.image.ram (log_of w all) c cache t) a (right t a is).strand)
+          ∙ ap (λ (o : Option Commit). pointers_with_post w.config.chip cache (post_by w.config.strands (memory_at w.image.ram (log_of w all) t) t c o) (pointers_at w.config.chip w.config.strands w.image.ram (log_of w all) c cache t)) (sym (log_at w all t a is)))))))

@@ -109,27 +109,27 @@ module _ (w : Setup) (setup : IsSetup w) (p : Parts) (f : Fit w p) where
       let x = logged_as w setup p f m a ia in
       let y = logged_as w setup p f n b ib in
       let c : ℕ = x.0.request.core in
-      let d : ℕ = op_dest w.shape x.0.request.op in
+      let d : ℕ = op_dest w.config.chip x.0.request.op in
       let lc : c < w.config.cores = (right w setup p f m x.0 x.1).core in
       let pre = admitted_sent w setup p f c d in
-      let up : SeenAscends 0 (mine w.shape c d p.crossbar.admitted) =
-      ascends_front 0 (mine w.shape c d p.crossbar.admitted) pre.0 (subst (λ (rs : List RequestData). SeenAscends 0 rs) (sym pre.1) ((kept w setup p f c lc).ascends d)) in
+      let up : SeenAscends 0 (mine w.config.chip c d p.crossbar.admitted) =
+      ascends_front 0 (mine w.config.chip c d p.crossbar.admitted) pre.0 (subst (λ (rs : List RequestData). SeenAscends 0 rs) (sym pre.1) ((kept w setup p f c lc).ascends d)) in
       let yc : y.0.request.core ≡ c = sym (core_at w setup p f n y.0 b y.1 y.2) ∙ (sym ec ∙ core_at w setup p f m x.0 a x.1 x.2) in
-      let yd : op_dest w.shape y.0.request.op ≡ d = sym (ap (λ (v : Commit). v.dest) y.2) ∙ (sym ed ∙ ap (λ (v : Commit). v.dest) x.2) in
-      let le = seen_pairs w.shape c d 0 p.crossbar.admitted m n x.0 y.0 up l x.1 y.1 refl refl yc yd in
+      let yd : op_dest w.config.chip y.0.request.op ≡ d = sym (ap (λ (v : Commit). v.dest) y.2) ∙ (sym ed ∙ ap (λ (v : Commit). v.dest) x.2) in
+      let le = seen_pairs w.config.chip c d 0 p.crossbar.admitted m n x.0 y.0 up l x.1 y.1 refl refl yc yd in
       let sa : a.seen ≡ x.0.request.seen = ap (λ (v : Commit). v.seen) x.2 in
       let sb : b.seen ≡ y.0.request.seen = ap (λ (v : Commit). v.seen) y.2 in
       omega (arith, le, sa, sb)
 
   module _ (over : AreOver w p) where
     -- no request is without a reply
-    quiet : (c d : ℕ) → length (answered w.shape c d (p.core c).received) ≡ length ((p.core c).sent d)
+    quiet : (c d : ℕ) → length (answered w.config.chip c d (p.core c).received) ≡ length ((p.core c).sent d)
     quiet c d =
         let pre = (proper_of w setup p f c).order d in
-        let a : List RequestData = answered w.shape c d (p.core c).received in
-        let rest : unanswered w.shape c (p.core c).sent (p.core c).received d ≡ pre.0 = ap (λ (l : List RequestData). drop (length a) l) (sym pre.1) ∙ drop-append_seam a pre.0 in
+        let a : List RequestData = answered w.config.chip c d (p.core c).received in
+        let rest : unanswered w.config.chip c (p.core c).sent (p.core c).received d ≡ pre.0 = ap (λ (l : List RequestData). drop (length a) l) (sym pre.1) ∙ drop-append_seam a pre.0 in
         let none : pre.0 ≡ [] = no_requests pre.0 (λ r h.
-        let u : IsIn r (unanswered w.shape c (p.core c).sent (p.core c).received d) = subst (λ (l : List RequestData). IsIn r l) (sym rest) h in
+        let u : IsIn r (unanswered w.config.chip c (p.core c).sent (p.core c).received d) = subst (λ (l : List RequestData). IsIn r l) (sym rest) h in
         let s = sent_is w setup p f c d r (subst (λ (l : List RequestData). IsIn r l) pre.1 (in_right r a pre.0 h)) in
         let ended = over c r.strand s.small s.meant.strand_is in
         elim ((kept w setup p f c s.small).out d r u) [
@@ -208,7 +208,7 @@ module _ (w : Setup) (setup : IsSetup w) (p : Parts) (f : Fit w p) where
         let s : ℕ = y.strand % w.config.strands in
         let row = k.rows s y.number y.item h.has access in
         stored_by y.item y.item.how refl (placed_at_end y access)
-        (subst (λ (v : ItemKind). RowIn w.shape w.config.ram (l1_by w.shape c (p.core c).received) (strand_items (p.core c) s) y.number y.item v) e row)
+        (subst (λ (v : ItemKind). RowIn w.config.chip w.config.ram (l1_by w.config.chip c (p.core c).received) (strand_items (p.core c) s) y.number y.item v) e row)
 
     pub program : ProgramOrder (run_of w (traces_of w p) p.crossbar.log)
     program = record {
@@ -301,7 +301,7 @@ module _ (w : Setup) (setup : IsSetup w) (p : Parts) (f : Fit w p) where
     -- ---- places
 
     abbrev slots : Act (items_of (traces_from p.core 0 w.config.cores)) → ℕ → Cache → List (Option Line)
-    slots x t cache = l1_by w.shape (x.strand / w.config.strands) (p.core (x.strand / w.config.strands)).received t cache
+    slots x t cache = l1_by w.config.chip (x.strand / w.config.strands) (p.core (x.strand / w.config.strands)).received t cache
 
     slots_are : (x : Act (items_of (traces_from p.core 0 w.config.cores))) (h : How) (cache : Cache) → x.item.how ≡ h
         → slots x (at_of h) cache ≡ cache_at (run_of w (traces_of w p) p.crossbar.log) (x.strand / w.config.strands) cache (at_of h)
@@ -309,24 +309,24 @@ module _ (w : Setup) (setup : IsSetup w) (p : Parts) (f : Fit w p) where
         caches_by w setup p f (x.strand / w.config.strands) (at_of h) cache (subst (λ (v : How). IsTime (p.core (x.strand / w.config.strands)).received (at_of v)) e (known w setup p f x))
 
     fetch_placed : (x : Act (items_of (traces_from p.core 0 w.config.cores))) (h : How) → x.item.how ≡ h → IsRead x.item.kind → x.item.addr < length w.image.ram
-        → FetchRow w.shape (slots x) x.item h → FetchPlaced (run_of w (traces_of w p) p.crossbar.log) x h
+        → FetchRow w.config.chip (slots x) x.item h → FetchPlaced (run_of w (traces_of w p) p.crossbar.log) x h
     fetch_placed x how.Unplaced e r ram row = row
     fetch_placed x (how.Forward t) e r ram row = row
-    fetch_placed x (how.Hit t) e r ram row = subst (λ (ls : List (Option Line)). GotLine w.shape Icache ls x.item) (slots_are x (how.Hit t) Icache e) row
+    fetch_placed x (how.Hit t) e r ram row = subst (λ (ls : List (Option Line)). GotLine w.config.chip Icache ls x.item) (slots_are x (how.Hit t) Icache e) row
     fetch_placed x (how.Commit n t) e r ram row =
-        (subst (λ (ls : List (Option Line)). IsMissing w.shape Icache ls x.item) (slots_are x (how.Commit n t) Icache e) row, got_memory w setup p f x n t e r ram)
+        (subst (λ (ls : List (Option Line)). IsMissing w.config.chip Icache ls x.item) (slots_are x (how.Commit n t) Icache e) row, got_memory w setup p f x n t e r ram)
 
     within : {i : ℕ} → i < w.config.ram → i < length w.image.ram
     within {i} l = omega (arith, l, setup.ram)
 
     load_placed : (x : Act (items_of (traces_from p.core 0 w.config.cores))) (h : How) → x.item.how ≡ h → IsRead x.item.kind
-        → LoadRow w.shape w.config.ram (slots x) (items x) x.number x.item h → LoadPlaced (run_of w (traces_of w p) p.crossbar.log) x h
+        → LoadRow w.config.chip w.config.ram (slots x) (items x) x.number x.item h → LoadPlaced (run_of w (traces_of w p) p.crossbar.log) x h
     load_placed x how.Unplaced e r row = row
     load_placed x (how.Forward t) e r row = (within row.0, forwarded x (how.Forward t) e row.1)
     load_placed x (how.Hit t) e r row =
-        (within row.0, none_overlaps x (how.Hit t) e row.1, subst (λ (ls : List (Option Line)). GotLine w.shape Dcache ls x.item) (slots_are x (how.Hit t) Dcache e) row.2)
+        (within row.0, none_overlaps x (how.Hit t) e row.1, subst (λ (ls : List (Option Line)). GotLine w.config.chip Dcache ls x.item) (slots_are x (how.Hit t) Dcache e) row.2)
     load_placed x (how.Commit n t) e r (inl row) =
-        inl (within row.0, none_overlaps x (how.Commit n t) e row.1, subst (λ (ls : List (Option Line)). IsMissing w.shape Dcache ls x.item) (slots_are x (how.Commit n t) Dcache e) row.2, got_memory w setup p f x n t e r (within row.0))
+        inl (within row.0, none_overlaps x (how.Commit n t) e row.1, subst (λ (ls : List (Option Line)). IsMissing w.config.chip Dcache ls x.item) (slots_are x (how.Commit n t) Dcache e) row.2, got_memory w setup p f x n t e r (within row.0))
     load_placed x (how.Commit n t) e r (inr row) = inr (row.0, none_held x (how.Commit n t) e row.1, got_io w setup p f x n t e r row.0)
 
     atomic_placed : (x : Act (items_of (traces_from p.core 0 w.config.cores))) (h : How) → x.item.how ≡ h → IsRead x.item.kind → x.item.addr < length w.image.ram
@@ -337,7 +337,7 @@ module _ (w : Setup) (setup : IsSetup w) (p : Parts) (f : Fit w p) where
     atomic_placed x (how.Commit n t) e r ram row = (none_held x (how.Commit n t) e row, got_memory w setup p f x n t e r ram)
 
     placed_as : (x : Act (items_of (traces_from p.core 0 w.config.cores))) (k : ItemKind) → x.item.kind ≡ k
-        → RowIn w.shape w.config.ram (slots x) (items x) x.number x.item k → Row (run_of w (traces_of w p) p.crossbar.log) x k
+        → RowIn w.config.chip w.config.ram (slots x) (items x) x.number x.item k → Row (run_of w (traces_of w p) p.crossbar.log) x k
     placed_as x kind.Fetch e row = (within row.0, fetch_placed x x.item.how refl (subst (λ (k : ItemKind). IsRead k) (sym e) refl) (within row.0) row.1)
     placed_as x kind.Load e row = load_placed x x.item.how refl (subst (λ (k : ItemKind). IsRead k) (sym e) refl) row
     placed_as x (kind.Atomic b) e row = (within row.0, atomic_placed x x.item.how refl (subst (λ (k : ItemKind). IsRead k) (sym e) refl) (within row.0) row.1)

@@ -4,7 +4,7 @@ use Rattle.std.specs.List.{slice_get}
 use Rattle.std.proofs.lemmas.Bool.{cases_lt, le-ltb, eq-eqb, ne_eqb}
 use Rattle.std.proofs.lemmas.List.{get_or_past}
 use Rattle.t1_num.specs.Memory.{number_at}
-use Rattle.t1_shape.specs.Shapes.Shape.{T1}
+use Rattle.t1_num.specs.declared.chip.ChipKind.TheVariants.{T1, T2}
 use Rattle.t1_shape.specs.Numbers.{banks}
 use Rattle.t1_shape.specs.Slots.{Line, set_of, first_slot, slot_of, tag, tags_of, at_slot, line_in}
 use Rattle.t1_shape.proofs.Slots.{slot_some}

@@ -104,7 +104,7 @@ module _ (w : Setup) (setup : IsSetup w) (p : Parts) (f : Fit w p) where
       (f.destinations d).order (λ c r h. (sent_is c d r (in_prefix r ((p.destination d).received c) ((p.core c).sent d) (f.rings.to_destination c d) h)).meant.core_is) c
 
   -- what a destination served is of its own requests
-  served_meant : (d i : ℕ) (a : Served) → slice_get (p.destination d).served i ≡ Some a → IsRight w a.request × (op_dest w.shape a.request.op ≡ d)
+  served_meant : (d i : ℕ) (a : Served) → slice_get (p.destination d).served i ≡ Some a → IsRight w a.request × (op_dest w.config.chip a.request.op ≡ d)
   served_meant d i a is =
       let c = a.request.core in
       let h : IsIn a.request ((p.destination d).received c) = subst (λ (l : List RequestData). IsIn a.request l) (served_all c d) (in_requests c (p.destination d).served i a is refl) in
@@ -118,31 +118,31 @@ module _ (w : Setup) (setup : IsSetup w) (p : Parts) (f : Fit w p) where
       let pre = f.rings.to_crossbar d in
       (served_meant d i a (subst (λ (l : List Served). slice_get l i ≡ Some a) pre.1 (slice_front (p.crossbar.received d) pre.0 i a is))).1)
 
-  own_served : (d : ℕ) → IsPrefix (served_at w.shape d p.crossbar.admitted) (p.destination d).served
-  own_served d = prefix_trans (served_at w.shape d p.crossbar.admitted) (p.crossbar.received d) (p.destination d).served (admitted.admits d) (f.rings.to_crossbar d)
+  own_served : (d : ℕ) → IsPrefix (served_at w.config.chip d p.crossbar.admitted) (p.destination d).served
+  own_served d = prefix_trans (served_at w.config.chip d p.crossbar.admitted) (p.crossbar.received d) (p.destination d).served (admitted.admits d) (f.rings.to_crossbar d)
 
-  pub served : (d : ℕ) → AreServed w.shape d (destination_start w d) (served_at w.shape d p.crossbar.admitted)
+  pub served : (d : ℕ) → AreServed w.config.chip d (destination_start w d) (served_at w.config.chip d p.crossbar.admitted)
   served d =
       let pre = own_served d in
-      served_front w.shape d (destination_start w d) (served_at w.shape d p.crossbar.admitted) pre.0
-      (subst (λ (l : List Served). AreServed w.shape d (destination_start w d) l) (sym pre.1) (f.destinations d).rule)
+      served_front w.config.chip d (destination_start w d) (served_at w.config.chip d p.crossbar.admitted) pre.0
+      (subst (λ (l : List Served). AreServed w.config.chip d (destination_start w d) l) (sym pre.1) (f.destinations d).rule)
 
   pub right : (n : ℕ) (a : Served) → slice_get p.crossbar.admitted n ≡ Some a → IsRight w a.request
   right n a is =
-      let d = op_dest w.shape a.request.op in
-      let at = in_own w.shape d p.crossbar.admitted n a is refl in
+      let d = op_dest w.config.chip a.request.op in
+      let at = in_own w.config.chip d p.crossbar.admitted n a is refl in
       let pre = own_served d in
-      (served_meant d at.0 a (subst (λ (l : List Served). slice_get l at.0 ≡ Some a) pre.1 (slice_front (served_at w.shape d p.crossbar.admitted) pre.0 at.0 a at.1))).0
+      (served_meant d at.0 a (subst (λ (l : List Served). slice_get l at.0 ≡ Some a) pre.1 (slice_front (served_at w.config.chip d p.crossbar.admitted) pre.0 at.0 a at.1))).0
 
   -- what was admitted of one core and destination is the first of what was sent
-  pub admitted_sent : (c d : ℕ) → IsPrefix (mine w.shape c d p.crossbar.admitted) ((p.core c).sent d)
+  pub admitted_sent : (c d : ℕ) → IsPrefix (mine w.config.chip c d p.crossbar.admitted) ((p.core c).sent d)
   admitted_sent c d =
-      let b : IsPrefix (mine w.shape c d p.crossbar.admitted) (requests_of (asked_by c (p.destination d).served)) =
-      prefix_requests (asked_by c (served_at w.shape d p.crossbar.admitted)) (asked_by c (p.destination d).served)
-      (prefix_filter (λ (a : Served). a.request.core == c) (served_at w.shape d p.crossbar.admitted) (p.destination d).served (own_served d)) in
-      let e : IsPrefix (mine w.shape c d p.crossbar.admitted) ((p.destination d).received c) =
-      subst (λ (l : List RequestData). IsPrefix (mine w.shape c d p.crossbar.admitted) l) (served_all c d) b in
-      prefix_trans (mine w.shape c d p.crossbar.admitted) ((p.destination d).received c) ((p.core c).sent d) e (f.rings.to_destination c d)
+      let b : IsPrefix (mine w.config.chip c d p.crossbar.admitted) (requests_of (asked_by c (p.destination d).served)) =
+      prefix_requests (asked_by c (served_at w.config.chip d p.crossbar.admitted)) (asked_by c (p.destination d).served)
+      (prefix_filter (λ (a : Served). a.request.core == c) (served_at w.config.chip d p.crossbar.admitted) (p.destination d).served (own_served d)) in
+      let e : IsPrefix (mine w.config.chip c d p.crossbar.admitted) ((p.destination d).received c) =
+      subst (λ (l : List RequestData). IsPrefix (mine w.config.chip c d p.crossbar.admitted) l) (served_all c d) b in
+      prefix_trans (mine w.config.chip c d p.crossbar.admitted) ((p.destination d).received c) ((p.core c).sent d) e (f.rings.to_destination c d)
 
   -- ---- each packet that came is of an access that was admitted
 
@@ -180,21 +180,21 @@ module _ (w : Setup) (setup : IsSetup w) (p : Parts) (f : Fit w p) where
       record { n = g.n; access = g.access; is = g.is; index = g.index; core = k.core r e; reply = k.reply r e }
 
   -- the replies that a core received answer, in order, the first of what it sent
-  answered_all : (c d : ℕ) → answered w.shape c d (p.core c).received ++ answered w.shape c d (all_posts c).0 ≡ mine w.shape c d p.crossbar.admitted
+  answered_all : (c d : ℕ) → answered w.config.chip c d (p.core c).received ++ answered w.config.chip c d (all_posts c).0 ≡ mine w.config.chip c d p.crossbar.admitted
   answered_all c d =
       let pre = all_posts c in
-      sym (answered-append w.shape c d (p.core c).received pre.0)
-      ∙ (ap (λ (ps : List Packet). answered w.shape c d ps) pre.1 ∙ answered_posts w.shape c d 0 p.crossbar.admitted)
+      sym (answered-append w.config.chip c d (p.core c).received pre.0)
+      ∙ (ap (λ (ps : List Packet). answered w.config.chip c d ps) pre.1 ∙ answered_posts w.config.chip c d 0 p.crossbar.admitted)
 
-  in_order : (c d : ℕ) → IsPrefix (answered w.shape c d (p.core c).received) ((p.core c).sent d)
+  in_order : (c d : ℕ) → IsPrefix (answered w.config.chip c d (p.core c).received) ((p.core c).sent d)
   in_order c d =
-      prefix_trans (answered w.shape c d (p.core c).received) (mine w.shape c d p.crossbar.admitted) ((p.core c).sent d)
-      (answered w.shape c d (all_posts c).0, answered_all c d) (admitted_sent c d)
+      prefix_trans (answered w.config.chip c d (p.core c).received) (mine w.config.chip c d p.crossbar.admitted) ((p.core c).sent d)
+      (answered w.config.chip c d (all_posts c).0, answered_all c d) (admitted_sent c d)
 
   pub log_size : length p.crossbar.log ≡ length p.crossbar.admitted
   log_size = ap (λ (l : List Commit). length l) admitted.log ∙ length-map p.crossbar.admitted (record_of w)
 
-  proper_reply : (n : ℕ) (a : Served) → slice_get p.crossbar.admitted n ≡ Some a → IsProperReply w.shape n (reply_to a)
+  proper_reply : (n : ℕ) (a : Served) → slice_get p.crossbar.admitted n ≡ Some a → IsProperReply w.config.chip n (reply_to a)
   proper_reply n a is = record {
     way = admitted_way w setup p.crossbar.admitted served right n a is;
     old = old_fits w setup p.crossbar.admitted served right n a is;
@@ -204,7 +204,7 @@ module _ (w : Setup) (setup : IsSetup w) (p : Parts) (f : Fit w p) where
   }
 
   -- what a core received is proper
-  pub proper_of : (c : ℕ) → AreProper w.shape c (p.core c).sent (p.core c).received
+  pub proper_of : (c : ℕ) → AreProper w.config.chip c (p.core c).sent (p.core c).received
   proper_of c =
       let pre = all_posts c in
       record {
@@ -223,7 +223,7 @@ module _ (w : Setup) (setup : IsSetup w) (p : Parts) (f : Fit w p) where
             record { core_is = t.0; set_is = z.set_is; way_is = z.way_is };
         replies = λ q r h e.
             let g = reply_from c q r h e in
-            subst (λ (n : ℕ). IsProperReply w.shape n r) (sym g.index) (subst (λ (v : ReplyData). IsProperReply w.shape g.n v) g.reply (proper_reply g.n g.access g.is));
+            subst (λ (n : ℕ). IsProperReply w.config.chip n r) (sym g.index) (subst (λ (v : ReplyData). IsProperReply w.config.chip g.n v) g.reply (proper_reply g.n g.access g.is));
         order = λ d. in_order c d;
       }
 
@@ -233,23 +233,23 @@ module _ (w : Setup) (setup : IsSetup w) (p : Parts) (f : Fit w p) where
 
   -- ---- where no request is without a reply, each access's core received its packet
 
-  pub came : ((c d : ℕ) → length (answered w.shape c d (p.core c).received) ≡ length ((p.core c).sent d))
+  pub came : ((c d : ℕ) → length (answered w.config.chip c d (p.core c).received) ≡ length ((p.core c).sent d))
       → (n : ℕ) (a : Served) → slice_get p.crossbar.admitted n ≡ Some a → IsIn (own_packet n a) (p.core a.request.core).received
   came quiet n a is =
       let c = a.request.core in
-      let d = op_dest w.shape a.request.op in
+      let d = op_dest w.config.chip a.request.op in
       let pre = all_posts c in
       let split = answered_all c d in
-      let short = prefix_length (mine w.shape c d p.crossbar.admitted) ((p.core c).sent d) (admitted_sent c d) in
-      let none : length (answered w.shape c d pre.0) ≡ 0 =
-      omega (arith, quiet c d, short, length-append (answered w.shape c d (p.core c).received) (answered w.shape c d pre.0), ap (λ (l : List RequestData). length l) split) in
-      let z : answered w.shape c d pre.0 ≡ [] = nil_from_length (answered w.shape c d pre.0) none in
+      let short = prefix_length (mine w.config.chip c d p.crossbar.admitted) ((p.core c).sent d) (admitted_sent c d) in
+      let none : length (answered w.config.chip c d pre.0) ≡ 0 =
+      omega (arith, quiet c d, short, length-append (answered w.config.chip c d (p.core c).received) (answered w.config.chip c d pre.0), ap (λ (l : List RequestData). length l) split) in
+      let z : answered w.config.chip c d pre.0 ≡ [] = nil_from_length (answered w.config.chip c d pre.0) none in
       let posted : IsIn (own_packet n a) (posts_from c 0 p.crossbar.admitted) =
       in_posts c 0 n p.crossbar.admitted a (own_packet n a) is (ap (λ (k : ℕ). packet_to c k a) (let q : 0 + n ≡ n = omega arith in q) ∙ packet_own n a) in
       let here : IsIn (own_packet n a) ((p.core c).received ++ pre.0) = subst (λ (ps : List Packet). IsIn (own_packet n a) ps) (sym pre.1) posted in
       elim (in_append (own_packet n a) (p.core c).received pre.0 here) [
         | inl h ↦ h
-        | inr h ↦ absurd (answers_some w.shape c d (own_packet n a) pre.0 (reply_to a) h refl (eq-eqb d d refl) z)
+        | inr h ↦ absurd (answers_some w.config.chip c d (own_packet n a) pre.0 (reply_to a) h refl (eq-eqb d d refl) z)
       ]
 
   -- ---- caches
@@ -258,23 +258,23 @@ module _ (w : Setup) (setup : IsSetup w) (p : Parts) (f : Fit w p) where
   posted_right n a is = record { strand = (right n a is).strand; line = line_is w setup p.crossbar.admitted served right n a is }
 
   -- the caches by the packets that came are those by the posts of the log
-  pub caches_by : (c t : ℕ) (cache : Cache) → IsTime (p.core c).received t → l1_by w.shape c (p.core c).received t cache ≡ l1_at w.shape w.config.strands w.image.ram p.crossbar.log c cache t
+  pub caches_by : (c t : ℕ) (cache : Cache) → IsTime (p.core c).received t → l1_by w.config.chip c (p.core c).received t cache ≡ l1_at w.config.chip w.config.strands w.image.ram p.crossbar.log c cache t
   caches_by c t cache known =
       let pre = all_posts c in
       let le = time_within c t p.crossbar.admitted (p.core c).received pre.0 pre.1 known in
-      ap (λ (ps : List Packet). slots_after w.shape c cache (no_lines w.shape cache) ps) (came_before c t p.crossbar.admitted (p.core c).received pre.0 pre.1 known)
-      ∙ (after_posts w p.crossbar.admitted posted_right c cache t le ∙ ap (λ (log : List Commit). l1_at w.shape w.config.strands w.image.ram log c cache t) (sym admitted.log))
+      ap (λ (ps : List Packet). slots_after w.config.chip c cache (no_lines w.config.chip cache) ps) (came_before c t p.crossbar.admitted (p.core c).received pre.0 pre.1 known)
+      ∙ (after_posts w p.crossbar.admitted posted_right c cache t le ∙ ap (λ (log : List Commit). l1_at w.config.chip w.config.strands w.image.ram log c cache t) (sym admitted.log))
 
-  pub pointers_are : (c t : ℕ) (cache : Cache) → IsTime (p.core c).received t → pointers_by w.shape (p.core c).received t cache ≡ pointers_at w.shape w.config.strands w.image.ram p.crossbar.log c cache t
+  pub pointers_are : (c t : ℕ) (cache : Cache) → IsTime (p.core c).received t → pointers_by w.config.chip (p.core c).received t cache ≡ pointers_at w.config.chip w.config.strands w.image.ram p.crossbar.log c cache t
   pointers_are c t cache known =
       let pre = all_posts c in
       let le = time_within c t p.crossbar.admitted (p.core c).received pre.0 pre.1 known in
-      ap (λ (ps : List Packet). pointers_after w.shape cache (no_pointers w.shape cache) ps) (came_before c t p.crossbar.admitted (p.core c).received pre.0 pre.1 known)
-      ∙ (after_pointers w p.crossbar.admitted posted_right c cache t le ∙ ap (λ (log : List Commit). pointers_at w.shape w.config.strands w.image.ram log c cache t) (sym admitted.log))
+      ap (λ (ps : List Packet). pointers_after w.config.chip cache (no_pointers w.config.chip cache) ps) (came_before c t p.crossbar.admitted (p.core c).received pre.0 pre.1 known)
+      ∙ (after_pointers w p.crossbar.admitted posted_right c cache t le ∙ ap (λ (log : List Commit). pointers_at w.config.chip w.config.strands w.image.ram log c cache t) (sym admitted.log))
 
   -- the victim by what came is that by the log
   pub victim_is : (c t : ℕ) (cache : Cache) (line : ℕ) → IsTime (p.core c).received t
-      → victim_by w.shape c (p.core c).received t cache line ≡ victim_at w.shape w.config.strands w.image.ram p.crossbar.log c cache t line
+      → victim_by w.config.chip c (p.core c).received t cache line ≡ victim_at w.config.chip w.config.strands w.image.ram p.crossbar.log c cache t line
   victim_is c t cache line known =
-      ap (λ (slots : List (Option Line)). victim_of (layout w.shape cache) slots (pointers_by w.shape (p.core c).received t cache) line) (caches_by c t cache known)
-      ∙ ap (λ (pointers : List ℕ). victim_of (layout w.shape cache) (l1_at w.shape w.config.strands w.image.ram p.crossbar.log c cache t) pointers line) (pointers_are c t cache known)
+      ap (λ (slots : List (Option Line)). victim_of (layout w.config.chip cache) slots (pointers_by w.config.chip (p.core c).received t cache) line) (caches_by c t cache known)
+      ∙ ap (λ (pointers : List ℕ). victim_of (layout w.config.chip cache) (l1_at w.config.chip w.config.strands w.image.ram p.crossbar.log c cache t) pointers line) (pointers_are c t cache known)

@@ -27,7 +27,7 @@ use Rattle.t1_joint.specs.Fit.{log_of}
 
 -- the record of an access that was admitted
 abbrev pub record_of : Setup → Served → Commit
-record_of w a = commit_of w.config.strands (op_dest w.shape a.request.op) a
+record_of w a = commit_of w.config.strands (op_dest w.config.chip a.request.op) a
 
 pub log_at : (w : Setup) (all : List Served) (n : ℕ) (a : Served) → slice_get all n ≡ Some a → slice_get (log_of w all) n ≡ Some (record_of w a)
 log_at w [] n a e = let clash : ◌≡◌ {A = Option Served} None (Some a) = e in cc

@@ -41,7 +41,7 @@ use Rattle.t1_fit.proofs.Directories.{AreRanged, ranged_append}
 pub record IsRight (w : Setup) (r : RequestData) : Type 0 where
   pub core : r.core < w.config.cores
   pub strand : r.strand < w.config.strands
-  pub asked : IsAsked w.shape w.config.ram r.op
+  pub asked : IsAsked w.config.chip w.config.ram r.op
 
 pub asked_sized : (shape : Shape) (ram : ℕ) (op : Op) → IsAsked shape ram op → IsSized (op_addr op) (op_size op)
 asked_sized shape ram (Fetch addr way) a = a.0

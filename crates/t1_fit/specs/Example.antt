@@ -1,8 +1,8 @@
 -- A small run that fits: one core of one strand, over a memory of zeros, whose budget is one unit. It
 -- fetches the word at address 0 from the bank of that address, and takes the trap of an illegal
 -- instruction.
-use Rattle.std.specs.Prelude.{ℕ, zero, suc, List, [], ◌∷◌, replicate, Some}
-use Rattle.t1_shape.specs.Shapes.Shape.{T1}
+use Rattle.std.specs.Prelude.{ℕ, zero, suc, false, List, [], ◌∷◌, replicate, Some}
+use Rattle.t1_num.specs.declared.chip.ChipKind.TheVariants.{T1, T2}
 use Rattle.t1_state.specs.declared.strand.Strand.{Strand}
 use Rattle.t1_state.specs.Traps.{in_handler}
 use Rattle.t1_packet.specs.declared.op.Op.TheVariants.{Fetch}
@@ -25,8 +25,7 @@ zeros = replicate 65536 0
 
 abbrev pub example_setup : Setup
 example_setup = record {
-  shape = T1;
-  config = record { cores = 1; strands = 1; ram = 65536; sets = 1; budget = 1 };
+  config = record { chip = T1; hyper = false; cores = 1; strands = 1; ram = 65536; sets = 1; budget = 1 };
   image = record { entry = 0; ram = zeros };
 }
 

@@ -13,7 +13,7 @@ use Rattle.t1_fit.specs.Example.{example_setup, example_parts, example_order}
 
 -- the packets that each core received are proper, at any time
 abbrev pub FittingPartsHaveProperPackets : Type 0
-FittingPartsHaveProperPackets = (w : Setup) (p : Parts) → IsSetup w → Fit w p → (core : ℕ) → AreProper w.shape core (p.core core).sent (p.core core).received
+FittingPartsHaveProperPackets = (w : Setup) (p : Parts) → IsSetup w → Fit w p → (core : ℕ) → AreProper w.config.chip core (p.core core).sent (p.core core).received
 
 -- with every strand ended and every buffer empty, the traces and the log are a joint history
 abbrev pub FittingPartsAreAJointHistory : Type 0

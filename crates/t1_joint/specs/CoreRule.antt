@@ -52,8 +52,8 @@ IsAsked shape ram (op.Cas addr size expect new) = IsSized addr size × (addr < r
 pub record IsMeant (w : Setup) (core dest : ℕ) (request : RequestData) : Type 0 where
   pub core_is : request.core ≡ core
   pub strand_is : request.strand < w.config.strands
-  pub dest_is : op_dest w.shape request.op ≡ dest
-  pub asked : IsAsked w.shape w.config.ram request.op
+  pub dest_is : op_dest w.config.chip request.op ≡ dest
+  pub asked : IsAsked w.config.chip w.config.ram request.op
 
 -- `seen` never falls, from a bound on
 abbrev pub SeenAscends : ℕ → List RequestData → Type 0
@@ -129,10 +129,10 @@ pub record KeepsRule (w : Setup) (core : ℕ) (p : CorePart) : Type 0 where
   pub placed : (s i index seen : ℕ) (x : Item) → HasItem (strand_items p s) i x → x.how ≡ Commit index seen → HasCome p.received s i index seen x
   pub replies : (packet : Packet) (reply : ReplyData) → IsIn packet p.received → packet.reply ≡ Some reply → HasAnswered p packet.index reply
   -- what is unanswered is out, and what is out is unanswered; nothing is twice
-  pub out : (d : ℕ) (r : RequestData) → IsIn r (unanswered w.shape core p.sent p.received d) → IsOut p r
-  pub awaited : (s : ℕ) (r : RequestData) → p.standing s ≡ Out r → IsIn r (unanswered w.shape core p.sent p.received (op_dest w.shape r.op))
-  pub stored : (s : ℕ) (r : RequestData) → IsIn r (p.sending s) → IsIn r (unanswered w.shape core p.sent p.received (op_dest w.shape r.op))
-  pub distinct : (d : ℕ) → AreDistinct (unanswered w.shape core p.sent p.received d)
+  pub out : (d : ℕ) (r : RequestData) → IsIn r (unanswered w.config.chip core p.sent p.received d) → IsOut p r
+  pub awaited : (s : ℕ) (r : RequestData) → p.standing s ≡ Out r → IsIn r (unanswered w.config.chip core p.sent p.received (op_dest w.config.chip r.op))
+  pub stored : (s : ℕ) (r : RequestData) → IsIn r (p.sending s) → IsIn r (unanswered w.config.chip core p.sent p.received (op_dest w.config.chip r.op))
+  pub distinct : (d : ℕ) → AreDistinct (unanswered w.config.chip core p.sent p.received d)
   -- each read has a place, and the stores without one are those of the buffers
   pub reads : (s i : ℕ) (x : Item) → HasItem (strand_items p s) i x → IsRead x.kind → IsPlaced x.how
   pub stores : (s i : ℕ) (x : Item) → HasItem (strand_items p s) i x → x.kind ≡ kind.Store → x.how ≡ Unplaced → IsIn i (p.waiting s)
@@ -144,16 +144,16 @@ pub record KeepsRule (w : Setup) (core : ℕ) (p : CorePart) : Type 0 where
   -- program order
   pub order : (s : ℕ) → IsInOrder (strand_items p s)
   pub store_order : (s i j : ℕ) (x y : Item) → i < j → HasItem (strand_items p s) i x → HasItem (strand_items p s) j y
-      → x.kind ≡ kind.Store → y.kind ≡ kind.Store → IsPlaced y.how → AreStoresInOrder w.shape x y
+      → x.kind ≡ kind.Store → y.kind ≡ kind.Store → IsPlaced y.how → AreStoresInOrder w.config.chip x y
   pub out_order : (s i : ℕ) (r : RequestData) (x : Item) → IsIn r (p.sending s) → i < r.item → HasItem (strand_items p s) i x
-      → x.kind ≡ kind.Store → LetsSend w.shape (op_dest w.shape r.op) r.seen x
+      → x.kind ≡ kind.Store → LetsSend w.config.chip (op_dest w.config.chip r.op) r.seen x
   -- places
   pub rows : (s i : ℕ) (x : Item) → HasItem (strand_items p s) i x → IsAccess x.kind
-      → RowIn w.shape w.config.ram (l1_by w.shape core p.received) (strand_items p s) i x x.kind
+      → RowIn w.config.chip w.config.ram (l1_by w.config.chip core p.received) (strand_items p s) i x x.kind
   pub few : (s i : ℕ) (x : Item) → HasItem (strand_items p s) i x → IsRead x.kind → FewAreHeldIn (strand_items p s) i (at_of x.how)
   -- a fetch or load asks for the victim of its cache when it was sent
   pub ways : (d : ℕ) (r : RequestData) (cache : Cache) (line : ℕ) → IsIn r (p.sent d) → filled_line cache r.op ≡ Some line
-      → asked_way r.op ≡ victim_by w.shape core p.received r.seen cache line
+      → asked_way r.op ≡ victim_by w.config.chip core p.received r.seen cache line
   -- each strand is its replay so far
   pub follows : (s : ℕ) (trace : Trace) → slice_get p.traces s ≡ Some trace
       → IsTraceSoFar (bounds_in w.config) (start_in w.config w.image.entry (core * w.config.strands + s)) (p.state s) trace (p.standing s)
@@ -162,4 +162,4 @@ pub record KeepsRule (w : Setup) (core : ℕ) (p : CorePart) : Type 0 where
 pub record IsCore (w : Setup) (core : ℕ) (p : CorePart) : Type 0 where
   pub size : length p.traces ≡ w.config.strands
   pub meant : (d : ℕ) (r : RequestData) → IsIn r (p.sent d) → IsMeant w core d r
-  pub kept : AreProper w.shape core p.sent p.received → KeepsRule w core p
+  pub kept : AreProper w.config.chip core p.sent p.received → KeepsRule w core p

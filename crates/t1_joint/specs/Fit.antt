@@ -26,7 +26,7 @@ pub record AreRinged (p : Parts) : Type 0 where
 -- ---- destinations: the banks by their rule, and the I/O bridge, which serves all alike and keeps nothing
 
 abbrev pub destination_start : Setup → ℕ → BankState
-destination_start w d = bank_start w.shape d w.config.cores w.config.sets w.image.ram
+destination_start w d = bank_start w.config.chip d w.config.cores w.config.sets w.image.ram
 
 abbrev pub serves : Shape → ℕ → BankState → RequestData → Served
 serves shape d b r = if nat_lt d (banks shape) then served_by b r else refused r
@@ -43,22 +43,22 @@ AreServed shape d b (access ∷ accesses) =
 -- requests of each core in order; and by the rule, from the image on
 pub record IsDestination (w : Setup) (d : ℕ) (p : DestinationPart) : Type 0 where
   pub order : ((c : ℕ) (r : RequestData) → IsIn r (p.received c) → r.core ≡ c) → (c : ℕ) → requests_of (asked_by c p.served) ≡ p.received c
-  pub rule : AreServed w.shape d (destination_start w d) p.served
+  pub rule : AreServed w.config.chip d (destination_start w d) p.served
 
 -- ---- the crossbar
 
 abbrev pub log_of : Setup → List Served → List Commit
-log_of w accesses = map (λ access. commit_of w.config.strands (op_dest w.shape access.request.op) access) accesses
+log_of w accesses = map (λ access. commit_of w.config.strands (op_dest w.config.chip access.request.op) access) accesses
 
 -- the log is of the accesses that were admitted, and those of a destination are the first that came from it
 pub record HasAdmitted (w : Setup) (p : CrossbarPart) : Type 0 where
   pub log : p.log ≡ log_of w p.admitted
-  pub admits : (d : ℕ) → IsPrefix (served_at w.shape d p.admitted) (p.received d)
+  pub admits : (d : ℕ) → IsPrefix (served_at w.config.chip d p.admitted) (p.received d)
 
 -- the rule of the log is said where each access that came from a destination is of that destination
 pub record IsCrossbar (w : Setup) (p : CrossbarPart) : Type 0 where
   pub short : length p.log ≤ 4294967295
-  pub rule : ((d i : ℕ) (a : Served) → slice_get (p.received d) i ≡ Some a → op_dest w.shape a.request.op ≡ d) → HasAdmitted w p
+  pub rule : ((d i : ℕ) (a : Served) → slice_get (p.received d) i ≡ Some a → op_dest w.config.chip a.request.op ≡ d) → HasAdmitted w p
   pub seen : (n : ℕ) (a : Served) → slice_get p.admitted n ≡ Some a → a.request.seen ≤ n
   pub posts : (c : ℕ) → p.posted c ≡ posts_from c 0 p.admitted
 

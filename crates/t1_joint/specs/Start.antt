@@ -1,6 +1,5 @@
 -- Where the strands of a machine begin, and how far their replays go.
 use Rattle.std.specs.Prelude.{ℕ, ◌*◌}
-use Rattle.t1_shape.specs.Shapes.{Shape}
 use Rattle.t1_state.specs.declared.strand.Strand.{Strand}
 use Rattle.t1_state.specs.Registers.{start_of}
 use Rattle.t1_event.specs.declared.report.Config.{Config}
@@ -14,8 +13,7 @@ start_in config entry number = start_of number (config.cores * config.strands) e
 abbrev pub bounds_in : Config → Bounds
 bounds_in config = record { ram = config.ram; budget = config.budget }
 
--- what a run begins with: the chip, the machine, and what its memory holds at first
+-- what a run begins with: the machine, and what its memory holds at first
 pub record Setup : Type 0 where
-  pub shape : Shape
   pub config : Config
   pub image : Image

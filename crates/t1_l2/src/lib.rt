@@ -1,4 +1,4 @@
-//! The L2 array of a bank: 12 ways a set of 64-byte lines, over the bank's part of RAM.
+//! The L2 array of a bank: 12 or 16 ways a set of 64-byte lines, over the bank's part of RAM.
 //!
 //! A bank holds each of its lines of RAM once; where a line is present in the L2 its bytes there are
 //! the ones that are read and written, and it is written back when another line takes its way. What a

@@ -53,12 +53,12 @@ from_dest requests core d (suc n) (suc i) below e =
     rw (← place) rest
 
 -- where the bit of a destination is set, the ring to it has room
-pub request_has_room : (requests : List (List RequestData)) (core d : ℕ) → d < 5 → has_room (request_rooms requests core) d ≡ true
-    → length (get_or requests (5 * core + d) []) < 2
+pub request_has_room : (requests : List (List RequestData)) (core d : ℕ) → d < 9 → has_room (request_rooms requests core) d ≡ true
+    → length (get_or requests (9 * core + d) []) < 2
 unfolding request_rooms
 request_has_room requests core d below e =
     let start : 0 + d ≡ d = omega arith in
-    subst (λ (n : ℕ). length (ring_of requests core n) < 2) start (from_dest requests core 0 5 d below (tested (rooms_from requests core 0 5) d e))
+    subst (λ (n : ℕ). length (ring_of requests core n) < 2) start (from_dest requests core 0 9 d below (tested (rooms_from requests core 0 9) d e))
 
 -- ---- the reply rings
 

@@ -58,4 +58,4 @@ pub start_spares : (w : Setup) (m : MachineState) → m ≡ machine_start w → 
 unfolding machine_start
 start_spares w m e d access rest some =
     let first : get_or (machine_start w).served d [] ≡ access ∷ rest = ap (λ (n : MachineState). get_or n.served d []) (sym e) ∙ some in
-    no_first (get_or (machine_start w).served d []) access rest _ (empties 5 d) first
+    no_first (get_or (machine_start w).served d []) access rest _ (empties 9 d) first

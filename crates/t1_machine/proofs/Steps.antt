@@ -77,10 +77,10 @@ pub exec_idle : (v m : MachineState) → v ≡ m → (i : ℕ) (core after : Cor
 exec_idle v m is i core after room at d e =
     subst (λ (k : MachineState). Idles k (record v { cores = set v.cores i after }) (slot.Exec i)) is (exec_idle_here v i core after room at d e)
 
-sent_dest : (room : ℕ) (o : Did) → HasRing room o → (d : ℕ) (r : RequestData) → o ≡ did.Sent d r → d < 5
+sent_dest : (room : ℕ) (o : Did) → HasRing room o → (d : ℕ) (r : RequestData) → o ≡ did.Sent d r → d < 9
 sent_dest room did.Moved h d r e = let clash : ◌≡◌ {A = Did} did.Moved (did.Sent d r) = e in cc
 sent_dest room (did.Waits w) h d r e = let clash : ◌≡◌ {A = Did} (did.Waits w) (did.Sent d r) = e in cc
-sent_dest room (did.Sent c q) h d r e = let same : c ≡ d = cc in subst (λ (k : ℕ). k < 5) same h.1
+sent_dest room (did.Sent c q) h d r e = let same : c ≡ d = cc in subst (λ (k : ℕ). k < 9) same h.1
 
 did_within : (i room : ℕ) (o : Did) → HasRing room o → i < 8 → IsWithin (woken_by i o)
 did_within i room did.Moved h few = few
@@ -129,7 +129,7 @@ drain_idle v m is i s core after room o at d h e =
     subst (λ (k : MachineState). Idles k (record v { cores = set v.cores i after }) (slot.Drain i s)) is (drain_idle_here v i s core after room o at d h e)
 
 drain_moves_here : (m : MachineState) (i s : ℕ) (core after : CoreState) (room d : ℕ) (r : RequestData) (requests : List (List RequestData)) → i < 8 → IsCoreAt m i core room
-    → drained.Sent d r ≡ (drain_of core s room).did → after ≡ (drain_of core s room).core → requests ≡ request_pushed m.requests i d r → d < 5
+    → drained.Sent d r ≡ (drain_of core s room).did → after ≡ (drain_of core s room).core → requests ≡ request_pushed m.requests i d r → d < 9
     → Moves m (with_core m i after requests) (slot.Drain i s) (woken.Sent i d)
 drain_moves_here m i s core after room d r requests few at f e q h =
     let some : stepped m (slot.Drain i s) ≡ Some (with_core m i (drain_of core s room).core (request_pushed m.requests i d r)) = rw at.here (rw (← at.room_is) (rw (← f) refl)) in
@@ -139,7 +139,7 @@ drain_moves_here m i s core after room d r requests few at f e q h =
     (record { within = (few, h); only = subst (λ (rs : List (List RequestData)). WakesOnly m (with_core m i after rs) (woken.Sent i d)) (sym q) wakes })
 
 pub drain_moves : (v m : MachineState) → v ≡ m → (i s : ℕ) (core after : CoreState) (room d : ℕ) (r : RequestData) (requests : List (List RequestData)) → i < 8 → IsCoreAt v i core room
-    → drained.Sent d r ≡ (drain_of core s room).did → after ≡ (drain_of core s room).core → requests ≡ request_pushed v.requests i d r → d < 5
+    → drained.Sent d r ≡ (drain_of core s room).did → after ≡ (drain_of core s room).core → requests ≡ request_pushed v.requests i d r → d < 9
     → Moves m (with_core v i after requests) (slot.Drain i s) (woken.Sent i d)
 drain_moves v m is i s core after room d r requests few at f e q h =
     subst (λ (k : MachineState). Moves k (with_core v i after requests) (slot.Drain i s) (woken.Sent i d)) is (drain_moves_here v i s core after room d r requests few at f e q h)
@@ -158,7 +158,7 @@ take_wakes v m is i core after packet rest few h e ring =
     subst (λ (k : MachineState). Wakes k (record v { cores = set v.cores i after; replies = set v.replies i rest }) (woken.Took i)) is
     (record { within = few; only = take_wakes_here v i core after packet rest h e ring })
 
-serve_wakes_here : (m : MachineState) (d c after : ℕ) (r : RequestData) (rest : List RequestData) (ring : List Served) (banks : List BankState) → d < 5
+serve_wakes_here : (m : MachineState) (d c after : ℕ) (r : RequestData) (rest : List RequestData) (ring : List Served) (banks : List BankState) → d < 9
     → nat_lt (length (get_or m.served d [])) most_served ≡ true → asker_from m.requests (length m.cores) d (get_or m.tried d 0) (length m.cores) ≡ Some c
     → ring_of m.requests c d ≡ r ∷ rest
     → WakesOnly m (record m { requests = set m.requests (ring_place c d) rest; served = set m.served d ring; banks = banks; tried = set m.tried d after }) (woken.Served c d)
@@ -166,7 +166,7 @@ serve_wakes_here m d c after r rest ring banks few room asker asks =
     let on : is_enabled m (slot.Serve d) ≡ true = rw room (rw asker (rw asks refl)) in
     served_wakes m c d after rest ring banks few on
 
-pub serve_wakes : (v m : MachineState) → v ≡ m → (d c after : ℕ) (r : RequestData) (rest : List RequestData) (ring : List Served) (banks : List BankState) → c < 8 → d < 5
+pub serve_wakes : (v m : MachineState) → v ≡ m → (d c after : ℕ) (r : RequestData) (rest : List RequestData) (ring : List Served) (banks : List BankState) → c < 8 → d < 9
     → nat_lt (length (get_or v.served d [])) most_served ≡ true → asker_from v.requests (length v.cores) d (get_or v.tried d 0) (length v.cores) ≡ Some c
     → ring_of v.requests c d ≡ r ∷ rest
     → Wakes m (record v { requests = set v.requests (ring_place c d) rest; served = set v.served d ring; banks = banks; tried = set v.tried d after }) (woken.Served c d)
@@ -174,7 +174,7 @@ serve_wakes v m is d c after r rest ring banks core few room asker asks =
     subst (λ (k : MachineState). Wakes k (record v { requests = set v.requests (ring_place c d) rest; served = set v.served d ring; banks = banks; tried = set v.tried d after }) (woken.Served c d)) is
     (record { within = (core, few); only = serve_wakes_here v d c after r rest ring banks few room asker asks })
 
-pub admit_wakes : (v m : MachineState) → v ≡ m → (d cores : ℕ) (rest : List Served) (replies : List (List Packet)) (x : XbarState) → d < 5
+pub admit_wakes : (v m : MachineState) → v ≡ m → (d cores : ℕ) (rest : List Served) (replies : List (List Packet)) (x : XbarState) → d < 9
     → ((k : ℕ) → bit_at cores k ≡ 0 → get_or replies k [] ≡ get_or v.replies k [])
     → Wakes m (record v { served = set v.served d rest; replies = replies; xbar = x }) (woken.Admitted d cores)
 admit_wakes v m is d cores rest replies x few same =

@@ -20,21 +20,21 @@ use Rattle.t1_machine.specs.Machine.{MachineState, ring_of, ring_place, rooms_fr
 -- ---- rings
 
 -- a ring that was not written
-pub ring_other : (rings : List (List RequestData)) (c d k e : ℕ) (ring : List RequestData) → d < 5 → e < 5 → (k ≡ c → e ≡ d → ⊥)
+pub ring_other : (rings : List (List RequestData)) (c d k e : ℕ) (ring : List RequestData) → d < 9 → e < 9 → (k ≡ c → e ≡ d → ⊥)
     → ring_of (set rings (ring_place c d) ring) k e ≡ ring_of rings k e
 ring_other rings c d k e ring hd he h =
-    get_or-set_other rings (5 * c + d) (5 * k + e) ring [] (λ same. h (omega (arith, same, hd, he)) (omega (arith, same, hd, he)))
+    get_or-set_other rings (9 * c + d) (9 * k + e) ring [] (λ same. h (omega (arith, same, hd, he)) (omega (arith, same, hd, he)))
 
-rooms_from_same : (q r : List (List RequestData)) (k d n : ℕ) → d + n ≤ 5 → ((e : ℕ) → e < 5 → ring_of q k e ≡ ring_of r k e) → rooms_from q k d n ≡ rooms_from r k d n
+rooms_from_same : (q r : List (List RequestData)) (k d n : ℕ) → d + n ≤ 9 → ((e : ℕ) → e < 9 → ring_of q k e ≡ ring_of r k e) → rooms_from q k d n ≡ rooms_from r k d n
 rooms_from_same q r k d zero few h = refl
 rooms_from_same q r k d (suc n) few h =
     let here : ring_of q k d ≡ ring_of r k d = h d (omega arith) in
     let rest : rooms_from q k (d + 1) n ≡ rooms_from r k (d + 1) n = rooms_from_same q r k (d + 1) n (omega arith) h in
     rw (here, rest) refl
 
-pub rooms_same : (q r : List (List RequestData)) (k : ℕ) → ((e : ℕ) → e < 5 → ring_of q k e ≡ ring_of r k e) → request_rooms q k ≡ request_rooms r k
+pub rooms_same : (q r : List (List RequestData)) (k : ℕ) → ((e : ℕ) → e < 9 → ring_of q k e ≡ ring_of r k e) → request_rooms q k ≡ request_rooms r k
 unfolding request_rooms
-rooms_same q r k h = rooms_from_same q r k 0 5 (omega arith) h
+rooms_same q r k h = rooms_from_same q r k 0 9 (omega arith) h
 
 asker_same : (q r : List (List RequestData)) (cores d c n : ℕ) → ((k : ℕ) → ring_of q k d ≡ ring_of r k d) → asker_from q cores d c n ≡ asker_from r cores d c n
 unfolding asker_from

@@ -23,6 +23,8 @@ use Rattle.t1_xbar.specs.Admission.{XbarState}
 use Rattle.t1_machine.specs.declared.slot.Slot.{Slot}
 use Rattle.t1_machine.specs.declared.slot.Slot.TheVariants as slot
 use Rattle.t1_machine.specs.declared.woken.Woken.TheVariants as woken
+use Rattle.t1_shape.proofs.Numbers.{banks_are}
+use Rattle.t1_machine.specs.Slots.{IsSlot}
 use Rattle.t1_machine.specs.Machine.{MachineState, ring_of, ring_place, with_core, requests_after, request_rooms, drain_did, is_enabled}
 use Rattle.t1_machine.specs.Wakes.{WakesOnly, woken_by}
 use Rattle.t1_machine.proofs.Unchanged.{ring_other, rooms_same, exec_same, drain_same, take_same, present, serve_same, admit_same}
@@ -74,8 +76,11 @@ quiet_wakes m i v within none on (slot.Take k) in_ h off = take_same m _ k (pres
 quiet_wakes m i v within none on (slot.Serve d) in_ h off = serve_same m _ d (λ k. refl) (length-set m.cores i v) refl refl ∙ off
 quiet_wakes m i v within none on (slot.Admit d) in_ h off = admit_same m _ d refl refl refl ∙ off
 
+dest_small : (m : MachineState) (e : ℕ) → IsSlot m.chip (slot.Serve e) → e < 9
+dest_small m e within = let few = (banks_are m.chip).1 in omega (arith, within, few)
+
 -- a core changed, and its ring to a destination
-pub sent_wakes : (m : MachineState) (i d : ℕ) (v : CoreState) (ring : List RequestData) → d < 5
+pub sent_wakes : (m : MachineState) (i d : ℕ) (v : CoreState) (ring : List RequestData) → d < 9
     → WakesOnly m (record m { cores = set m.cores i v; requests = set m.requests (ring_place i d) ring }) (woken.Sent i d)
 sent_wakes m i d v ring hd (slot.Exec k) in_ h off =
     exec_same m _ k (slice_get-set_other m.cores i k v h.0) (rooms_same _ m.requests k (λ e he. ring_other m.requests i d k e ring hd he (λ same other. h.0 same))) ∙ off
@@ -83,11 +88,11 @@ sent_wakes m i d v ring hd (slot.Drain k s) in_ h off =
     drain_same m _ k s (slice_get-set_other m.cores i k v h.0) (rooms_same _ m.requests k (λ e he. ring_other m.requests i d k e ring hd he (λ same other. h.0 same))) ∙ off
 sent_wakes m i d v ring hd (slot.Take k) in_ h off = take_same m _ k (present m.cores i k v) refl ∙ off
 sent_wakes m i d v ring hd (slot.Serve e) in_ h off =
-    serve_same m _ e (λ k. ring_other m.requests i d k e ring hd in_ (λ other same. h.1 same)) (length-set m.cores i v) refl refl ∙ off
+    serve_same m _ e (λ k. ring_other m.requests i d k e ring hd (dest_small m e in_) (λ other same. h.1 same)) (length-set m.cores i v) refl refl ∙ off
 sent_wakes m i d v ring hd (slot.Admit e) in_ h off = admit_same m _ e refl refl refl ∙ off
 
 -- what an exec did
-pub did_wakes : (m : MachineState) (i : ℕ) (v : CoreState) (o : Did) → ((d : ℕ) (r : RequestData) → o ≡ did.Sent d r → d < 5)
+pub did_wakes : (m : MachineState) (i : ℕ) (v : CoreState) (o : Did) → ((d : ℕ) (r : RequestData) → o ≡ did.Sent d r → d < 9)
     → WakesOnly m (with_core m i v (requests_after m.requests i o)) (woken_by i o)
 did_wakes m i v did.Moved h = core_wakes m i v
 did_wakes m i v (did.Waits w) h = core_wakes m i v
@@ -105,7 +110,7 @@ took_wakes m i v rest on (slot.Serve d) in_ h off = serve_same m _ d (λ k. refl
 took_wakes m i v rest on (slot.Admit d) in_ h off = elim (h.1 tt) [ ]
 
 -- a destination served a core's request
-pub served_wakes : (m : MachineState) (c d after : ℕ) (rest : List RequestData) (ring : List Served) (banks : List BankState) → d < 5 → is_enabled m (slot.Serve d) ≡ true
+pub served_wakes : (m : MachineState) (c d after : ℕ) (rest : List RequestData) (ring : List Served) (banks : List BankState) → d < 9 → is_enabled m (slot.Serve d) ≡ true
     → WakesOnly m (record m { requests = set m.requests (ring_place c d) rest; served = set m.served d ring; banks = banks; tried = set m.tried d after }) (woken.Served c d)
 served_wakes m c d after rest ring banks hd on (slot.Exec k) in_ h off =
     exec_same m _ k refl (rooms_same _ m.requests k (λ e he. ring_other m.requests c d k e rest hd he (λ same other. h.0 same))) ∙ off
@@ -114,7 +119,7 @@ served_wakes m c d after rest ring banks hd on (slot.Drain k s) in_ h off =
 served_wakes m c d after rest ring banks hd on (slot.Take k) in_ h off = take_same m _ k refl refl ∙ off
 served_wakes m c d after rest ring banks hd on (slot.Serve e) in_ h off =
     at_other m _ (slot.Serve d) (slot.Serve e) e d (λ same. ap (λ (j : ℕ). slot.Serve j) same) on off
-    (λ other. serve_same m _ e (λ k. ring_other m.requests c d k e rest hd in_ (λ same both. other both)) refl
+    (λ other. serve_same m _ e (λ k. ring_other m.requests c d k e rest hd (dest_small m e in_) (λ same both. other both)) refl
     (get_or-set_other m.tried d e after 0 other) (get_or-set_other m.served d e ring [] other))
 served_wakes m c d after rest ring banks hd on (slot.Admit e) in_ h off = admit_same m _ e (get_or-set_other m.served d e ring [] h.1) refl refl ∙ off
 

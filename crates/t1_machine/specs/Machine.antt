@@ -1,8 +1,9 @@
 -- The serial machine: its state, and what each slot does to it. A slot that is not enabled has no step.
 use Rattle.std.specs.Prelude.{ℕ, zero, suc, ◌+◌, ◌*◌, ◌==◌, ◌≡◌, ◌<◌, ◌≤◌, nat_lt, Bool, true, false, is_some, if◌then◌else◌, List, [], ◌∷◌, ◌++◌, length, get_or, set, Option, Some, None}
 use Rattle.std.specs.List.{slice_get}
-use Rattle.t1_shape.specs.Shapes.Shape.{T1}
-use Rattle.t1_shape.specs.Numbers.{destinations}
+use Rattle.t1_num.specs.declared.chip.ChipKind.TheVariants.{T1}
+use Rattle.t1_shape.specs.Shapes.{Shape}
+use Rattle.t1_shape.specs.Numbers.{banks}
 use Rattle.t1_packet.specs.declared.packet.Packet.{Packet}
 use Rattle.t1_packet.specs.declared.served.Served.{Served}
 use Rattle.t1_packet.specs.Data.{RequestData}
@@ -23,9 +24,10 @@ use Rattle.t1_machine.specs.Rings.{is_empty}
 use Rattle.t1_machine.specs.declared.slot.Slot.{Slot}
 use Rattle.t1_machine.specs.declared.slot.Slot.TheVariants as slot
 
--- the cores; a request ring for each core and destination, a served ring for each destination and a reply
+-- the chip; the cores; a request ring for each core and destination, a served ring for each destination and a reply
 -- ring for each core, oldest first; the banks; the core that each destination tries first; the crossbar
 pub record MachineState : Type 0 where
+  pub chip : Shape
   pub cores : List CoreState
   pub requests : List (List RequestData)
   pub served : List (List Served)
@@ -46,9 +48,13 @@ most_served = 2
 abbrev pub most_replies : ℕ
 most_replies = 16
 
+-- the most destinations of a chip; each chip has rings for so many, of which it uses those of its own
+abbrev pub most_dests : ℕ
+most_dests = 9
+
 -- the place of the ring of a core to a destination
 abbrev pub ring_place : ℕ → ℕ → ℕ
-ring_place core dest = destinations T1 * core + dest
+ring_place core dest = most_dests * core + dest
 
 abbrev pub ring_of : List (List RequestData) → ℕ → ℕ → List RequestData
 ring_of requests core dest = get_or requests (ring_place core dest) []
@@ -66,7 +72,7 @@ rooms_from requests core dest zero = 0
 rooms_from requests core dest (suc n) = room_bit most_requests (ring_of requests core dest) + 2 * rooms_from requests core (dest + 1) n
 
 unfoldable pub request_rooms : List (List RequestData) → ℕ → ℕ
-request_rooms requests core = rooms_from requests core 0 (destinations T1)
+request_rooms requests core = rooms_from requests core 0 most_dests
 
 -- a word with a bit for each core whose reply ring has room
 unfoldable pub reply_rooms : List (List Packet) → ℕ
@@ -136,8 +142,8 @@ bank_of banks d = get_or banks d (bank_start T1 d 0 0 [])
 abbrev pub serving : MachineState → ℕ → ℕ → RequestData → List RequestData → MachineState
 serving m d c r rest = record m {
   requests = set m.requests (ring_place c d) rest;
-  served = set m.served d (get_or m.served d [] ++ serves T1 d (bank_of m.banks d) r ∷ []);
-  banks = set m.banks d (destination_with T1 d (bank_of m.banks d) r);
+  served = set m.served d (get_or m.served d [] ++ serves m.chip d (bank_of m.banks d) r ∷ []);
+  banks = set m.banks d (destination_with m.chip d (bank_of m.banks d) r);
   tried = set m.tried d (core_after (length m.cores) c);
 }
 
@@ -198,14 +204,14 @@ after_slot m s = or_same m (stepped m s)
 -- ---- what stands at every step
 
 -- how many parts and rings of each kind there are
-pub record IsShaped (cores requests served replies banks tried : ℕ) : Type 0 where
+pub record IsShaped (chip : Shape) (cores requests served replies all tried : ℕ) : Type 0 where
   pub some : 1 ≤ cores
   pub few : cores ≤ 8
-  pub all_requests : requests ≡ 5 * cores
-  pub all_served : served ≡ 5
+  pub all_requests : requests ≡ 9 * cores
+  pub all_served : served ≡ 9
   pub all_replies : replies ≡ cores
-  pub all_banks : banks ≡ 4
-  pub all_tried : tried ≡ 5
+  pub all_banks : all ≡ banks chip
+  pub all_tried : tried ≡ 9
 
 -- where a destination served an access, the log has room for its record
 abbrev pub HasSpare : MachineState → Type 0

@@ -7,10 +7,8 @@ use Rattle.t1_machine.specs.declared.slot.Slot.{Slot}
 use Rattle.t1_machine.specs.declared.slot.Slot.TheVariants as slot
 use Rattle.t1_machine.specs.declared.woken.Woken.{Woken}
 use Rattle.t1_machine.specs.declared.woken.Woken.TheVariants as woken
-use Rattle.t1_shape.specs.Shapes.Shape.{T1}
-use Rattle.t1_shape.specs.Numbers.{destinations}
 use Rattle.t1_machine.specs.Slots.{most_cores, IsSlot}
-use Rattle.t1_machine.specs.Machine.{MachineState, is_enabled}
+use Rattle.t1_machine.specs.Machine.{MachineState, most_dests, is_enabled}
 
 -- Exec or a Drain of this core
 abbrev pub IsOwn : ℕ → Slot → Type 0
@@ -60,16 +58,16 @@ IsAsleep (woken.Admitted dest cores) s = (IsServe dest s → ⊥) × (IsAdmit s 
 
 -- a slot that is none of the woken, and was not enabled, is not enabled
 abbrev pub WakesOnly : MachineState → MachineState → Woken → Type 0
-WakesOnly before after w = (s : Slot) → IsSlot T1 s → IsAsleep w s → is_enabled before s ≡ false → is_enabled after s ≡ false
+WakesOnly before after w = (s : Slot) → IsSlot before.chip s → IsAsleep w s → is_enabled before s ≡ false → is_enabled after s ≡ false
 
 -- its core and its destination are those of the chip
 abbrev pub IsWithin : Woken → Type 0
 IsWithin woken.Nothing = Unit {0}
 IsWithin (woken.Core core) = core < most_cores
-IsWithin (woken.Sent core dest) = (core < most_cores) × (dest < destinations T1)
+IsWithin (woken.Sent core dest) = (core < most_cores) × (dest < most_dests)
 IsWithin (woken.Took core) = core < most_cores
-IsWithin (woken.Served core dest) = (core < most_cores) × (dest < destinations T1)
-IsWithin (woken.Admitted dest cores) = dest < destinations T1
+IsWithin (woken.Served core dest) = (core < most_cores) × (dest < most_dests)
+IsWithin (woken.Admitted dest cores) = dest < most_dests
 
 -- what a step wakes
 pub record Wakes (before after : MachineState) (w : Woken) : Type 0 where

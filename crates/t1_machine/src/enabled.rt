@@ -1,13 +1,12 @@
 //! What each slot of the machine would do.
 ghost use Rattle.std.specs.Prelude.{◌≡◌, ◌+◌, ◌*◌, ◌<◌, ◌∷◌, [], length, get_or, drop, slice_get, is_some, Some, None, true, false};
-ghost use Rattle.t1_shape.specs.Shapes.Shape.{T1};
 ghost use Rattle.t1_machine.specs.Machine.{exec_in, drain_in, take_in, serve_if, admit_from, is_enabled};
 ghost use Rattle.t1_machine.specs.Slots.{IsSlot};
 ghost use Rattle.t1_machine.specs.Waits.{wait_at};
 ghost use Rattle.t1_machine.specs.declared.slot.Slot.TheVariants as slot;
 
 use crate::machine::Machine;
-use crate::rooms::{asker_from, reply_rooms, request_rooms};
+use crate::rooms::{DESTINATIONS, asker_from, reply_rooms, request_rooms};
 use crate::slot::Slot;
 use t1_core::Wait;
 
@@ -48,7 +47,7 @@ impl Machine {
     }
 
     fn would_serve(&self, number: u8) -> bool
-        requires { number < 5 }
+        requires { number < 9 }
         ensures { result ≡ is_enabled self.now (slot.Serve number) }
     {
         let dest = number as usize;
@@ -60,12 +59,12 @@ impl Machine {
         let Some(asker) = asker_from(&self.requests, cores, dest, self.tried[dest]) else {
             return false;
         };
-        let ring = &self.requests[5 * asker as usize + dest];
+        let ring = &self.requests[DESTINATIONS * asker as usize + dest];
         !ring.is_empty()
     }
 
     fn would_admit(&self, number: u8) -> bool
-        requires { number < 5 }
+        requires { number < 9 }
         ensures { result ≡ is_enabled self.now (slot.Admit number) }
     {
         let rooms = reply_rooms(&self.replies);
@@ -78,7 +77,7 @@ impl Machine {
 
     /// Whether a slot is enabled.
     pub fn enabled(&self, slot: Slot) -> bool
-        requires { IsSlot T1 slot }
+        requires { IsSlot self.now.chip slot }
         ensures { result ≡ is_enabled self.now slot }
     {
         match slot {

@@ -15,5 +15,5 @@ pub mod woken;
 pub use machine::Machine;
 pub use ring::Ring;
 pub use schedule::Schedule;
-pub use slot::{SLOTS, Slot, slot_at};
+pub use slot::{Slot, slot_at, slots};
 pub use woken::Woken;

@@ -1,6 +1,6 @@
 //! The machine: its parts, and what each slot does to them.
 ghost use Rattle.std.specs.Prelude.{◌≡◌, ◌<◌, ◌≤◌, ◌*◌, ◌+◌, ◌∷◌, [], length, get_or, set, slice_get, drop, is_some, IfSome, IfNone, IfOk, Some, None, true, false};
-ghost use Rattle.t1_shape.specs.Shapes.Shape.{T1};
+ghost use Rattle.t1_shape.specs.Numbers.{banks as banks_of};
 ghost use Rattle.t1_joint.specs.Fit.{serves, destination_with};
 ghost use Rattle.t1_machine.specs.Machine.{MachineState, HasSpare, bank_of, with_core, requests_after, exec_in, drain_in, take_in, serve_if, admit_from, stepped, or_same, is_enabled};
 ghost use Rattle.t1_machine.specs.Slots.{IsSlot};
@@ -22,12 +22,14 @@ use t1_core::{Core, Drained};
 use t1_elf::Image;
 use t1_event::{Commit, Config};
 use t1_iob::serve_io;
+use t1_num::ChipKind;
 use t1_packet::{Request, Served};
 use t1_xbar::{Admitted, Xbar};
 
 /// The cores, the destinations and the crossbar, with the rings between them.
 #[derive(Drop)]
 pub struct Machine {
+    chip: ChipKind,
     pub(crate) cores: Vec<Core>,
     pub(crate) requests: Vec<Requests>,
     pub(crate) served: Vec<Accesses>,
@@ -44,6 +46,7 @@ impl Model for Machine {
     ghost Value = { MachineState };
 
     ghost view = { λ m. record {
+      chip = m.chip;
       cores = m.cores.items;
       requests = m.requests.items;
       served = m.served.items;
@@ -53,19 +56,18 @@ impl Model for Machine {
       xbar = m.xbar;
     } };
 
-    ghost invariant = { λ m. IsShaped (length m.cores.items) (length m.requests.items) (length m.served.items) (length m.replies.items) (length m.banks.items) (length m.tried.items)
+    ghost invariant = { λ m. IsShaped m.chip (length m.cores.items) (length m.requests.items) (length m.served.items) (length m.replies.items) (length m.banks.items) (length m.tried.items)
         × (m.xbar.cores ≡ length m.cores.items)
         × ((d : ℕ) → get_or m.tried.items d 0 < length m.cores.items) };
 }
 
 /// A destination serves a request: a bank, or the I/O bridge, which is the last.
-fn serve_at(banks: &mut Vec<Bank>, dest: usize, request: Request) -> Served
-    requires banks { length banks.old.items ≡ 4 }
-    requires dest { dest < 5 }
-    ensures served { result ≡ serves T1 dest (bank_of banks.old.items dest) request }
-    ensures after { banks.new.items ≡ set banks.old.items dest (destination_with T1 dest (bank_of banks.old.items dest) request) }
+fn serve_at(chip: ChipKind, banks: &mut Vec<Bank>, dest: usize, request: Request) -> Served
+    requires banks { length banks.old.items ≡ banks_of chip }
+    ensures served { result ≡ serves chip dest (bank_of banks.old.items dest) request }
+    ensures after { banks.new.items ≡ set banks.old.items dest (destination_with chip dest (bank_of banks.old.items dest) request) }
 {
-    if dest == 4 {
+    if dest >= banks.len() {
         return serve_io(request);
     }
     let bank = &mut banks[dest];
@@ -82,6 +84,7 @@ impl Machine {
         let count = config.cores as usize;
         let units = config.strands as usize * (2 * config.budget as usize);
         Ok(Machine {
+            chip: config.chip,
             cores: cores(alloc, config, image)?,
             requests: rings(alloc, DESTINATIONS * count)?,
             served: rings(alloc, DESTINATIONS)?,
@@ -190,7 +193,7 @@ impl Machine {
     /// A destination serves the oldest request of the first core that asks.
     #[inline(never)]
     fn serve(&mut self, number: u8) -> Option<Woken>
-        requires { number < 5 }
+        requires { number < 9 }
         ensures state { self.new ≡ or_same self.old (stepped self.old (slot.Serve number)) }
         ensures done { is_some result ≡ is_enabled self.old (slot.Serve number) }
         ensures woken { IfSome result (λ woken. Wakes self.old self.new woken) }
@@ -204,11 +207,11 @@ impl Machine {
         let Some(asker) = asker_from(&self.requests, cores, dest, self.tried[dest]) else {
             return None;
         };
-        let ring = &mut self.requests[5 * asker as usize + dest];
+        let ring = &mut self.requests[DESTINATIONS * asker as usize + dest];
         let Some(request) = ring.pop() else {
             return None;
         };
-        let served = serve_at(&mut self.banks, dest, request);
+        let served = serve_at(self.chip, &mut self.banks, dest, request);
         let ring = &mut self.served[dest];
         ring.push(served);
         self.tried[dest] = core_after(cores, asker);
@@ -221,7 +224,7 @@ impl Machine {
     /// The crossbar admits the oldest access that a destination served.
     #[inline(never)]
     fn admit(&mut self, number: u8) -> Option<Woken>
-        requires dest { number < 5 }
+        requires dest { number < 9 }
         requires spare { HasSpare self.old }
         ensures state { self.new ≡ or_same self.old (stepped self.old (slot.Admit number)) }
         ensures done { is_some result ≡ is_enabled self.old (slot.Admit number) }
@@ -251,7 +254,7 @@ impl Machine {
     /// Does a slot: what it woke, or none where it was not enabled. One that is not enabled changes
     /// nothing.
     pub fn step(&mut self, slot: Slot) -> Option<Woken>
-        requires slot { IsSlot T1 slot }
+        requires slot { IsSlot self.old.chip slot }
         requires spare { HasSpare self.old }
         ensures state { self.new ≡ or_same self.old (stepped self.old slot) }
         ensures done { is_some result ≡ is_enabled self.old slot }
@@ -264,6 +267,13 @@ impl Machine {
             Slot::Serve(dest) => self.serve(dest),
             Slot::Admit(dest) => self.admit(dest),
         }
+    }
+
+    /// The chip.
+    pub fn chip(&self) -> ChipKind
+        ensures { result ≡ self.now.chip }
+    {
+        self.chip
     }
 
     /// Its cores and its log.

@@ -22,8 +22,8 @@ pub(crate) type Accesses = Ring<Served, 2>;
 /// A ring of packets, from the crossbar to a core.
 pub(crate) type Packets = Ring<Packet, 16>;
 
-/// How many destinations there are: four banks and the I/O bridge.
-pub(crate) const DESTINATIONS: usize = 5;
+/// The most destinations of a chip: eight banks and the I/O bridge.
+pub(crate) const DESTINATIONS: usize = 9;
 
 /// 1 where a ring has room for a request, else 0.
 fn request_bit(requests: &[Requests], place: usize) -> u16
@@ -34,23 +34,32 @@ fn request_bit(requests: &[Requests], place: usize) -> u16
     if requests[place].has_room() { 1 } else { 0 }
 }
 
+/// Bits of four rings, from a place on.
+fn four_bits(requests: &[Requests], place: usize) -> u16
+    requires { place + 4 ≤ length requests.now }
+    ensures value { result ≡ room_bit most_requests (get_or requests.now place []) + 2 * (room_bit most_requests (get_or requests.now (place + 1) []) + 2 * (room_bit most_requests (get_or requests.now (place + 2) []) + 2 * room_bit most_requests (get_or requests.now (place + 3) []))) }
+    ensures few { result ≤ 15 }
+{
+    request_bit(requests, place)
+        + 2 * (request_bit(requests, place + 1)
+            + 2 * (request_bit(requests, place + 2) + 2 * request_bit(requests, place + 3)))
+}
+
 /// A bit for each destination to which a core's request ring has room.
 #[tactic(auto, unfolding(crate::specs::Machine::request_rooms))]
 pub(crate) fn request_rooms(requests: &[Requests], core: usize) -> u16
-    requires { 5 * core + 5 ≤ length requests.now }
+    requires { 9 * core + 9 ≤ length requests.now }
     ensures { result ≡ request_rooms requests.now core }
 {
     let first = DESTINATIONS * core;
-    request_bit(requests, first)
-        + 2 * (request_bit(requests, first + 1)
-            + 2 * (request_bit(requests, first + 2)
-                + 2 * (request_bit(requests, first + 3) + 2 * request_bit(requests, first + 4))))
+    four_bits(requests, first)
+        + 16 * (four_bits(requests, first + 4) + 16 * request_bit(requests, first + 8))
 }
 
 /// Puts a request into the ring of a core to a destination.
 pub(crate) fn push_request(requests: &mut Vec<Requests>, core: usize, dest: u8, request: Request)
-    requires within { 5 * core + 5 ≤ length requests.old.items }
-    requires dest { dest < 5 }
+    requires within { 9 * core + 9 ≤ length requests.old.items }
+    requires dest { dest < 9 }
     requires room { has_room (request_rooms requests.old.items core) dest ≡ true }
     ensures value { requests.new.items ≡ request_pushed requests.old.items core dest request }
     ensures len { length requests.new.items ≡ length requests.old.items }
@@ -61,7 +70,7 @@ pub(crate) fn push_request(requests: &mut Vec<Requests>, core: usize, dest: u8, 
 
 /// Puts what a core sent, if anything, into its ring; what that wakes.
 pub(crate) fn push_sent(requests: &mut Vec<Requests>, core: u8, did: Did) -> Woken
-    requires within { 5 * core + 5 ≤ length requests.old.items }
+    requires within { 9 * core + 9 ≤ length requests.old.items }
     requires ring { HasRing (request_rooms requests.old.items core) did }
     ensures value { requests.new.items ≡ requests_after requests.old.items core did }
     ensures len { length requests.new.items ≡ length requests.old.items }
@@ -89,9 +98,9 @@ pub(crate) fn core_after(cores: u8, core: u8) -> u8
 /// The first core, cyclically from one on, that asks a destination.
 #[tactic(auto, unfolding(crate::specs::Machine::asker_from))]
 pub(crate) fn asker_from(requests: &[Requests], cores: u8, dest: usize, from: u8) -> Option<u8>
-    requires dest { dest < 5 }
+    requires dest { dest < 9 }
     requires from { from < cores }
-    requires rings { length requests.now ≡ 5 * cores }
+    requires rings { length requests.now ≡ 9 * cores }
     ensures asker { result ≡ asker_from requests.now cores dest from cores }
     ensures within { IfSome result (λ core. core < cores) }
 {

@@ -1,6 +1,5 @@
 //! The parts of the machine at its start.
 ghost use Rattle.std.specs.Prelude.{◌≡◌, ◌<◌, ◌≤◌, ◌*◌, [], length, replicate, IfOk};
-ghost use Rattle.t1_shape.specs.Shapes.Shape.{T1};
 ghost use Rattle.t1_shape.specs.Numbers.{banks};
 ghost use Rattle.t1_machine.specs.Start.{IsRunnable, setup_of, cores_from, banks_from};
 
@@ -45,10 +44,11 @@ pub(crate) fn cores(alloc: Global, config: &Config, image: &Image) -> Result<Vec
 #[tactic(auto, unfolding(crate::specs::Start::banks_from))]
 pub(crate) fn banks(alloc: Global, config: &Config, image: &Image) -> Result<Vec<Bank>, AllocError>
     requires { IsRunnable (setup_of config.now image.now) }
-    ensures { IfOk result (λ all. all.items ≡ banks_from (setup_of config.now image.now) 0 (banks T1)) }
+    ensures { IfOk result (λ all. all.items ≡ banks_from (setup_of config.now image.now) 0 (banks config.now.chip)) }
 {
-    let mut all = Vec::with_capacity(alloc, 4)?;
-    for bank in 0..4 {
+    let count = t1_shape::banks(config.chip);
+    let mut all = Vec::with_capacity(alloc, count as usize)?;
+    for bank in 0..count {
         all.push(Bank::new(alloc, bank, config, image.ram.as_slice())?)?;
     }
     Ok(all)

@@ -2,8 +2,11 @@ use crate::{Machine, Slot};
 use std::test::Fail;
 use t1_elf::{Image, Listed};
 use t1_event::Config;
+use t1_num::ChipKind;
 
 const CONFIG: Config = Config {
+    chip: ChipKind::T1,
+    hyper: false,
     cores: 1,
     strands: 2,
     ram: 65536,

@@ -2,7 +2,6 @@
 use Rattle.std.proofs.Common.{◌≡◌, ℕ, ◌*◌, ◌+◌, ◌%◌, ◌<◌, ◌==◌, Bool, true, false, cond, List, [], ◌∷◌, ◌++◌, length, get_or, Option, Some, refl, ap, sym, ◌∙◌, subst, arith, append_assoc}
 use Rattle.std.specs.List.{slice_get}
 use Rattle.std.proofs.lemmas.List.{length-set, append-nil}
-use Rattle.t1_shape.specs.Shapes.Shape.{T1}
 use Rattle.t1_packet.specs.declared.packet.Packet.{Packet}
 use Rattle.t1_packet.specs.Data.{RequestData}
 use Rattle.t1_event.specs.declared.report.Config.{Config}
@@ -34,15 +33,15 @@ module _ (config : Config) (image : Image) (blocks : config.ram % 65536 ≡ 0) (
   module _ (c : ℕ) (core next : CoreState) (call : Call) (requests : List (List RequestData)) (new : List RequestData) (is : slice_get m.cores c ≡ Some core)
       (line : IsWholeCall call) (does : (h : History) → h.core ≡ core → (after_call h call).core ≡ next)
       (sends : (h : History) → h.core ≡ core → (after_call h call).sent ≡ h.sent ++ new) (receives : (h : History) → (after_call h call).received ≡ h.received ++ [])
-      (same : length requests ≡ length m.requests) (pushed : IsPushed m.requests requests c new) where
+      (same : length requests ≡ length m.requests) (pushed : IsPushed config.chip m.requests requests c new) where
     abbrev calls : ℕ → List Call
     calls = calls_with g.calls c call
 
-    requests_now : (i e : ℕ) → e < 5
-        → requests_of (asked_by i (ever_served T1 g.admitted m.served e)) ++ ring_of requests i e ≡ sent_to T1 e (history_at w calls i).sent
+    requests_now : (i e : ℕ) → e < 9
+        → requests_of (asked_by i (ever_served config.chip g.admitted m.served e)) ++ ring_of requests i e ≡ sent_to config.chip e (history_at w calls i).sent
     requests_now i e le =
-        let before : List RequestData = requests_of (asked_by i (ever_served T1 g.admitted m.served e)) in
-        let more : List RequestData = cond (i == c) (sent_to T1 e new) [] in
+        let before : List RequestData = requests_of (asked_by i (ever_served config.chip g.admitted m.served e)) in
+        let more : List RequestData = cond (i == c) (sent_to config.chip e new) [] in
         ap (λ (rs : List RequestData). before ++ rs) (pushed i e le)
         ∙ (sym (append_assoc before (ring_of m.requests i e) more)
         ∙ (ap (λ (rs : List RequestData). rs ++ more) (g.requests i e le) ∙ sym (sent_now w m g c core next call is new sends i e)))
@@ -72,6 +71,7 @@ module _ (config : Config) (image : Image) (blocks : config.ram % 65536 ≡ 0) (
         tried = g.parts.tried;
         posted = g.parts.posted;
         strands = g.parts.strands;
+      chip = g.parts.chip;
       };
       calls = calls;
       admitted = g.admitted;
@@ -88,7 +88,7 @@ module _ (config : Config) (image : Image) (blocks : config.ram % 65536 ≡ 0) (
 
   -- ---- exec
 
-  count : length m.requests ≡ 5 * config.cores
+  count : length m.requests ≡ 9 * config.cores
   count = let l = g.parts.shaped.all_requests in omega (arith, l, g.parts.cores)
 
   pub exec_kept : (c : ℕ) (core : CoreState) (x : Did) → slice_get m.cores c ≡ Some core → (turn_of core (request_rooms m.requests c)).did ≡ Some x
@@ -100,10 +100,10 @@ module _ (config : Config) (image : Image) (blocks : config.ram % 65536 ≡ 0) (
       (λ h same. ap (λ (k : CoreState). h.sent ++ turned_by (turn_of k room).did) same ∙ ap (λ (o : Option Did). h.sent ++ turned_by o) e)
       (λ h. sym (append-nil h.received))
       (length-requests_after m.requests c x)
-      (did_pushed config.cores m.requests c x count (core_within w m g c core core (Turn room) is)
+      (did_pushed config.chip config.cores m.requests c x count (core_within w m g c core core (Turn room) is)
       (goes x (subst (λ (k : CoreState). (turn_of k room).did ≡ Some x) (g.cores c core is) e)))
     where
-      goes : (y : Did) → (turn_of (history_at w g.calls c).core (request_rooms m.requests c)).did ≡ Some y → Goes y
+      goes : (y : Did) → (turn_of (history_at w g.calls c).core (request_rooms m.requests c)).did ≡ Some y → Goes config.chip y
       goes did.Moved h = tt
       goes (did.Waits wait) h = tt
       goes (did.Sent d r) h = (requests_go_out.turn w c (request_rooms m.requests c) d (g.calls c) r blocks h).meant.dest_is
@@ -116,5 +116,5 @@ module _ (config : Config) (image : Image) (blocks : config.ram % 65536 ≡ 0) (
       (λ h same. ap (λ (k : CoreState). (drain_of k s room).core) same)
       (λ h same. ap (λ (k : CoreState). h.sent ++ drained_by (drain_of k s room).did) same ∙ ap (λ (o : Drained). h.sent ++ drained_by o) e)
       (λ h. sym (append-nil h.received))
-      (length-set m.requests (5 * c + d) (ring_of m.requests c d ++ r ∷ []))
-      (one_pushed config.cores m.requests c d r count (core_within w m g c core core (Drain s room) is) (requests_go_out.drain w c s room d (g.calls c) r blocks (subst (λ (k : CoreState). (drain_of k s room).did ≡ drained.Sent d r) (g.cores c core is) e)).meant.dest_is)
+      (length-set m.requests (9 * c + d) (ring_of m.requests c d ++ r ∷ []))
+      (one_pushed config.chip config.cores m.requests c d r count (core_within w m g c core core (Drain s room) is) (requests_go_out.drain w c s room d (g.calls c) r blocks (subst (λ (k : CoreState). (drain_of k s room).did ≡ drained.Sent d r) (g.cores c core is) e)).meant.dest_is)

@@ -2,7 +2,6 @@
 use Rattle.std.proofs.Common.{◌≡◌, ℕ, ◌+◌, ◌%◌, ◌<◌, ◌≤◌, List, [], ◌∷◌, ◌++◌, length, set, get_or, ap, sym, ◌∙◌, subst, inl, inr, arith, append_assoc}
 use Rattle.std.proofs.lemmas.Bool.{cases_eq, cases_lt}
 use Rattle.std.proofs.lemmas.List.{length-set, map-append, get_or-set_same, get_or-set_other, get_or_past}
-use Rattle.t1_shape.specs.Shapes.Shape.{T1}
 use Rattle.t1_packet.specs.declared.packet.Packet.{Packet}
 use Rattle.t1_packet.specs.declared.served.Served.{Served}
 use Rattle.t1_packet.specs.Packets.{packet_to}
@@ -32,30 +31,30 @@ module _ (config : Config) (image : Image) (blocks : config.ram % 65536 ≡ 0) (
   abbrev w : Setup
   w = setup_of config image
 
-  dest : d < 5
+  dest : d < 9
   dest =
       elim (cases_lt d (length m.served)) [
         | inl l ↦ omega (arith, l, g.parts.shaped.all_served)
         | inr l ↦ (let none : get_or m.served d [] ≡ [] = get_or_past m.served d [] l in let clash : ◌≡◌ {A = List Served} [] (a ∷ rest) = sym none ∙ head in cc)
       ]
 
-  of_dest : op_dest T1 a.request.op ≡ d
+  of_dest : op_dest config.chip a.request.op ≡ d
   of_dest = (sent_is config image blocks m g a.request.core d a.request (waiting_sent config image blocks m g d a rest dest head)).meant.dest_is
 
   -- what each destination served is the same list, cut at another place
-  same_ever : (e : ℕ) → ever_served T1 g.admitted m.served e ≡ ever_served T1 (g.admitted ++ a ∷ []) (set m.served d rest) e
+  same_ever : (e : ℕ) → ever_served config.chip g.admitted m.served e ≡ ever_served config.chip (g.admitted ++ a ∷ []) (set m.served d rest) e
   same_ever e =
       elim (cases_eq e d) [
         | inl s ↦
-            let goal : ever_served T1 g.admitted m.served d ≡ ever_served T1 (g.admitted ++ a ∷ []) (set m.served d rest) d =
-            ap (λ (l : List Served). served_at T1 d g.admitted ++ l) head
-            ∙ (sym (append_assoc (served_at T1 d g.admitted) (a ∷ []) rest)
-            ∙ (ap (λ (l : List Served). l ++ rest) (sym (own_here T1 d g.admitted a of_dest))
-            ∙ ap (λ (l : List Served). served_at T1 d (g.admitted ++ a ∷ []) ++ l) (sym (get_or-set_same m.served d rest [] (omega (arith, dest, g.parts.shaped.all_served)))))) in
-            subst (λ (k : ℕ). ever_served T1 g.admitted m.served k ≡ ever_served T1 (g.admitted ++ a ∷ []) (set m.served d rest) k) (sym s) goal
+            let goal : ever_served config.chip g.admitted m.served d ≡ ever_served config.chip (g.admitted ++ a ∷ []) (set m.served d rest) d =
+            ap (λ (l : List Served). served_at config.chip d g.admitted ++ l) head
+            ∙ (sym (append_assoc (served_at config.chip d g.admitted) (a ∷ []) rest)
+            ∙ (ap (λ (l : List Served). l ++ rest) (sym (own_here config.chip d g.admitted a of_dest))
+            ∙ ap (λ (l : List Served). served_at config.chip d (g.admitted ++ a ∷ []) ++ l) (sym (get_or-set_same m.served d rest [] (omega (arith, dest, g.parts.shaped.all_served)))))) in
+            subst (λ (k : ℕ). ever_served config.chip g.admitted m.served k ≡ ever_served config.chip (g.admitted ++ a ∷ []) (set m.served d rest) k) (sym s) goal
         | inr ns ↦
-            ap (λ (l : List Served). l ++ get_or m.served e []) (sym (own_other T1 e g.admitted a (λ z. ns (sym z ∙ of_dest))))
-            ∙ ap (λ (l : List Served). served_at T1 e (g.admitted ++ a ∷ []) ++ l) (sym (get_or-set_other m.served d e rest [] ns))
+            ap (λ (l : List Served). l ++ get_or m.served e []) (sym (own_other config.chip e g.admitted a (λ z. ns (sym z ∙ of_dest))))
+            ∙ ap (λ (l : List Served). served_at config.chip e (g.admitted ++ a ∷ []) ++ l) (sym (get_or-set_other m.served d e rest [] ns))
       ]
 
   size : length m.xbar.log ≡ length g.admitted
@@ -97,6 +96,7 @@ module _ (config : Config) (image : Image) (blocks : config.ram % 65536 ≡ 0) (
       tried = g.parts.tried;
       posted = g.parts.posted;
       strands = g.parts.strands;
+      chip = g.parts.chip;
     };
     calls = g.calls;
     admitted = g.admitted ++ a ∷ [];
@@ -111,6 +111,6 @@ module _ (config : Config) (image : Image) (blocks : config.ram % 65536 ≡ 0) (
     absent = g.absent;
     requests = λ i e le. ap (λ (l : List Served). requests_of (asked_by i l) ++ ring_of m.requests i e) (sym (same_ever e)) ∙ g.requests i e le;
     replies = replies_now;
-    served = λ e le. subst (λ (l : List Served). AreServed T1 e (destination_start w e) l) (same_ever e) (g.served e le);
+    served = λ e le. subst (λ (l : List Served). AreServed config.chip e (destination_start w e) l) (same_ever e) (g.served e le);
     banks = λ e le. g.banks e le ∙ ap (λ (l : List Served). bank_after (destination_start w e) (requests_of l)) (same_ever e);
   }

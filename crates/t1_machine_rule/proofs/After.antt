@@ -1,7 +1,6 @@
 -- Every list of slots keeps what each slot keeps.
 use Rattle.std.proofs.Common.{◌≡◌, ℕ, ◌%◌, List, [], ◌∷◌, Option, Some, None, refl}
 use Rattle.t1_shape.specs.Shapes.{Shape}
-use Rattle.t1_shape.specs.Shapes.Shape.{T1}
 use Rattle.t1_event.specs.declared.report.Config.{Config}
 use Rattle.t1_elf.specs.declared.object.Image.{Image}
 use Rattle.t1_joint.specs.Start.{Setup}
@@ -28,25 +27,21 @@ module _ (config : Config) (image : Image) (blocks : config.ram % 65536 ≡ 0) w
   step_kept m next g (IsServe d c r rest ld free head) = serve_kept config image blocks m g d c r rest ld head
   step_kept m next g (IsAdmit d access rest head past) = admit_kept config image blocks m g d access rest head past
 
-  slot_kept : (m : MachineState) (n : ℕ) → Kept w m → Kept w (after_slot m (slot_at T1 n))
-  slot_kept m n g = by (stepped m (slot_at T1 n)) refl
+  slot_kept : (m : MachineState) (n : ℕ) → Kept w m → Kept w (after_slot m (slot_at m.chip n))
+  slot_kept m n g = by (stepped m (slot_at m.chip n)) refl
     where
-      by : (o : Option MachineState) → stepped m (slot_at T1 n) ≡ o → Kept w (or_same m o)
+      by : (o : Option MachineState) → stepped m (slot_at m.chip n) ≡ o → Kept w (or_same m o)
       by None e = g
-      by (Some next) e = step_kept m next g (step_is m (slot_at T1 n) next (slot_within n) e)
+      by (Some next) e = step_kept m next g (step_is m (slot_at m.chip n) next (slot_within m.chip n) e)
 
   run_kept : (m : MachineState) (numbers : List ℕ) → Kept w m → Kept w (machine_after m numbers)
   unfolding machine_after
   run_kept m [] g = g
-  run_kept m (n ∷ ns) g = run_kept (after_slot m (slot_at T1 n)) ns (slot_kept m n g)
+  run_kept m (n ∷ ns) g = run_kept (after_slot m (slot_at m.chip n)) ns (slot_kept m n g)
 
   pub after_start : IsRunnable w → (numbers : List ℕ) → Kept w (machine_after (machine_start w) numbers)
   after_start runs numbers = run_kept (machine_start w) numbers (kept_start config image runs)
 
 -- from the start of any setup that is runnable
 pub kept_after : (w : Setup) → IsRunnable w → (numbers : List ℕ) → Kept w (machine_after (machine_start w) numbers)
-kept_after w runs numbers = by w.shape w.config w.image runs
-  where
-    by : (shape : Shape) (config : Config) (image : Image) → let w : Setup = record { shape = shape; config = config; image = image } in
-        IsRunnable w → Kept w (machine_after (machine_start w) numbers)
-    by T1 config image runs = after_start config image runs.blocks runs numbers
+kept_after w runs numbers = after_start w.config w.image runs.blocks runs numbers

@@ -65,28 +65,36 @@ asks_none requests cores d c (suc n) lc none =
 
 -- ---- rooms
 
--- a word of five bits, all set
-rooms_31 : (requests : List (List RequestData)) (c : ℕ) → ((d : ℕ) → d < 5 → ring_of requests c d ≡ []) → request_rooms requests c ≡ 31
+-- a word of nine bits, all set
+rooms_511 : (requests : List (List RequestData)) (c : ℕ) → ((d : ℕ) → d < 9 → ring_of requests c d ≡ []) → request_rooms requests c ≡ 511
 unfolding request_rooms
-rooms_31 requests c none =
-    let bit : (d : ℕ) → d < 5 → room_bit 2 (ring_of requests c d) ≡ 1 = λ d l. ap (λ (rs : List RequestData). room_bit 2 rs) (none d l) in
-    let a = bit 0 (omega arith) in
-    let b = bit 1 (omega arith) in
-    let x = bit 2 (omega arith) in
-    let y = bit 3 (omega arith) in
-    let z = bit 4 (omega arith) in
-    omega (arith, a, b, x, y, z)
+rooms_511 requests c none =
+    let bit : (d : ℕ) → d < 9 → room_bit 2 (ring_of requests c d) ≡ 1 = λ d l. ap (λ (rs : List RequestData). room_bit 2 rs) (none d l) in
+    let b0 = bit 0 (omega arith) in
+    let b1 = bit 1 (omega arith) in
+    let b2 = bit 2 (omega arith) in
+    let b3 = bit 3 (omega arith) in
+    let b4 = bit 4 (omega arith) in
+    let b5 = bit 5 (omega arith) in
+    let b6 = bit 6 (omega arith) in
+    let b7 = bit 7 (omega arith) in
+    let b8 = bit 8 (omega arith) in
+    omega (arith, b0, b1, b2, b3, b4, b5, b6, b7, b8)
 
-room_31 : (d : ℕ) → d < 5 → has_room 31 d ≡ true
-room_31 zero l = refl
-room_31 (suc zero) l = refl
-room_31 (suc (suc zero)) l = refl
-room_31 (suc (suc (suc zero))) l = refl
-room_31 (suc (suc (suc (suc zero)))) l = refl
-room_31 (suc (suc (suc (suc (suc d))))) l = absurd (omega (arith, l))
+room_511 : (d : ℕ) → d < 9 → has_room 511 d ≡ true
+room_511 zero l = refl
+room_511 (suc zero) l = refl
+room_511 (suc (suc zero)) l = refl
+room_511 (suc (suc (suc zero))) l = refl
+room_511 (suc (suc (suc (suc zero)))) l = refl
+room_511 (suc (suc (suc (suc (suc zero))))) l = refl
+room_511 (suc (suc (suc (suc (suc (suc zero)))))) l = refl
+room_511 (suc (suc (suc (suc (suc (suc (suc zero))))))) l = refl
+room_511 (suc (suc (suc (suc (suc (suc (suc (suc zero)))))))) l = refl
+room_511 (suc (suc (suc (suc (suc (suc (suc (suc (suc d))))))))) l = absurd (omega (arith, l))
 
-pub requests_have_room : (requests : List (List RequestData)) (c : ℕ) → ((d : ℕ) → d < 5 → ring_of requests c d ≡ []) → (d : ℕ) → d < 5 → has_room (request_rooms requests c) d ≡ true
-requests_have_room requests c none d l = ap (λ (word : ℕ). has_room word d) (rooms_31 requests c none) ∙ room_31 d l
+pub requests_have_room : (requests : List (List RequestData)) (c : ℕ) → ((d : ℕ) → d < 9 → ring_of requests c d ≡ []) → (d : ℕ) → d < 9 → has_room (request_rooms requests c) d ≡ true
+requests_have_room requests c none d l = ap (λ (word : ℕ). has_room word d) (rooms_511 requests c none) ∙ room_511 d l
 
 reply_bit : (rings : List (List Packet)) (i : ℕ) → ((k : ℕ) → k < length rings → get_or rings k [] ≡ []) → i < length rings → bit_at (reply_rooms rings) i ≡ 1
 unfolding reply_rooms

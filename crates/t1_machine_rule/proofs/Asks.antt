@@ -1,11 +1,11 @@
 -- Where a request that is unanswered stands.
+use Rattle.t1_shape.specs.Shapes.{Shape}
 use Rattle.std.proofs.Common.{◌≡◌, ℕ, zero, suc, ◌<◌, ◌≤◌, ◌==◌, nat_lt, false, List, [], ◌∷◌, ◌++◌, length, get_or, drop, Option, Some, None, ap, sym, ◌∙◌, subst, inl, inr, arith, append_assoc}
 use Rattle.std.specs.List.{slice_get}
 use Rattle.std.proofs.lemmas.Bool.{le-ltb}
 use Rattle.std.proofs.lemmas.List.{map-append}
 use Rattle.std.proofs.lemmas.List.Elements.{filter-append}
 use Rattle.t1_num.specs.MemoryLaws.{AreBytes}
-use Rattle.t1_shape.specs.Shapes.Shape.{T1}
 use Rattle.t1_packet.specs.declared.packet.Packet.{Packet}
 use Rattle.t1_packet.specs.declared.served.Served.{Served}
 use Rattle.t1_packet.specs.Data.{RequestData}
@@ -61,25 +61,26 @@ module _ (config : Config) (image : Image) (runs : IsRunnable (setup_of config i
   w = setup_of config image
 
   -- what is sent and unanswered is on its way
-  unanswered_here : (c d : ℕ) → c < config.cores → d < 5 → drop (length (answered T1 c d (history_at w g.calls c).received)) (sent_to T1 d (history_at w g.calls c).sent) ≡ on_their_way m c d
+  unanswered_here : (c d : ℕ) → c < config.cores → d < 9 → drop (length (answered config.chip c d (history_at w g.calls c).received)) (sent_to config.chip d (history_at w g.calls c).sent) ≡ on_their_way m c d
   unanswered_here c d lc ld =
-      let came : List RequestData = answered T1 c d (history_at w g.calls c).received in
-      let back : List RequestData = answered T1 c d (get_or m.replies c []) in
+      let came : List RequestData = answered config.chip c d (history_at w g.calls c).received in
+      let back : List RequestData = answered config.chip c d (get_or m.replies c []) in
       let held : List RequestData = requests_of (asked_by c (get_or m.served d [])) in
       let asked : List RequestData = ring_of m.requests c d in
-      let one : mine T1 c d g.admitted ≡ came ++ back =
-      sym (answered_posts T1 c d 0 g.admitted)
-      ∙ (ap (λ (ps : List Packet). answered T1 c d ps) (sym (g.replies c lc)) ∙ answered-append T1 c d (history_at w g.calls c).received (get_or m.replies c [])) in
-      let two : requests_of (asked_by c (ever_served T1 g.admitted m.served d)) ≡ mine T1 c d g.admitted ++ held =
-      ap requests_of (filter-append (λ (a : Served). a.request.core == c) (served_at T1 d g.admitted) (get_or m.served d []))
-      ∙ map-append (λ (a : Served). a.request) (asked_by c (served_at T1 d g.admitted)) (asked_by c (get_or m.served d [])) in
-      let three : sent_to T1 d (history_at w g.calls c).sent ≡ came ++ (back ++ (held ++ asked)) =
+      let one : mine config.chip c d g.admitted ≡ came ++ back =
+      sym (answered_posts config.chip c d 0 g.admitted)
+      ∙ (ap (λ (ps : List Packet). answered config.chip c d ps) (sym (g.replies c lc)) ∙ answered-append config.chip c d (history_at w g.calls c).received (get_or m.replies c [])) in
+      let two : requests_of (asked_by c (ever_served config.chip g.admitted m.served d)) ≡ mine config.chip c d g.admitted ++ held =
+      ap requests_of (filter-append (λ (a : Served). a.request.core == c) (served_at config.chip d g.admitted) (get_or m.served d []))
+      ∙ map-append (λ (a : Served). a.request) (asked_by c (served_at config.chip d g.admitted)) (asked_by c (get_or m.served d [])) in
+      let three : sent_to config.chip d (history_at w g.calls c).sent ≡ came ++ (back ++ (held ++ asked)) =
       sym (g.requests c d ld)
       ∙ (ap (λ (l : List RequestData). l ++ asked) (two ∙ ap (λ (l : List RequestData). l ++ held) one)
       ∙ (append_assoc (came ++ back) held asked ∙ append_assoc came back (held ++ asked))) in
-      ap (λ (l : List RequestData). drop (length came) l) three ∙ drop_front came (back ++ (held ++ asked))
+      ap (λ (l : List RequestData). drop (length came) l) three
+      ∙ (drop_front came (back ++ (held ++ asked)) ∙ ap (λ (k : Shape). answered k c d (get_or m.replies c []) ++ (held ++ asked)) (sym g.parts.chip))
 
-  pub asking : (c d : ℕ) → c < config.cores → d < 5 → IsAsking w m ((parts config image runs bytes m g short).core c) c d
+  pub asking : (c d : ℕ) → c < config.cores → d < 9 → IsAsking w m ((parts config image runs bytes m g short).core c) c d
   asking c d lc ld =
       at_history config image runs bytes m g short c (λ (p : CorePart). IsAsking w m p c d) lc (record {
         unanswered_are = unanswered_here c d lc ld;
@@ -87,31 +88,31 @@ module _ (config : Config) (image : Image) (runs : IsRunnable (setup_of config i
       })
 
   -- what a strand awaits, and what its buffer sent, is on its way
-  pub awaited : (c s : ℕ) (r : RequestData) → c < config.cores → ((parts config image runs bytes m g short).core c).standing s ≡ Out r → IsIn r (on_their_way m c (op_dest T1 r.op))
+  pub awaited : (c s : ℕ) (r : RequestData) → c < config.cores → ((parts config image runs bytes m g short).core c).standing s ≡ Out r → IsIn r (on_their_way m c (op_dest config.chip r.op))
   awaited c s r lc e =
-      subst (λ (rs : List RequestData). IsIn r rs) (asking c (op_dest T1 r.op) lc (dest_small r.op)).unanswered_are
+      subst (λ (rs : List RequestData). IsIn r rs) (asking c (op_dest config.chip r.op) lc (dest_small config.chip r.op)).unanswered_are
       ((keeps config image runs bytes m g short c lc).awaited s r e)
 
-  pub stored : (c s : ℕ) (r : RequestData) → c < config.cores → IsIn r (((parts config image runs bytes m g short).core c).sending s) → IsIn r (on_their_way m c (op_dest T1 r.op))
+  pub stored : (c s : ℕ) (r : RequestData) → c < config.cores → IsIn r (((parts config image runs bytes m g short).core c).sending s) → IsIn r (on_their_way m c (op_dest config.chip r.op))
   stored c s r lc e =
-      subst (λ (rs : List RequestData). IsIn r rs) (asking c (op_dest T1 r.op) lc (dest_small r.op)).unanswered_are
+      subst (λ (rs : List RequestData). IsIn r rs) (asking c (op_dest config.chip r.op) lc (dest_small config.chip r.op)).unanswered_are
       ((keeps config image runs bytes m g short c lc).stored s r e)
 
   -- what was sent was sent at a time that the core knows
-  sent_known : (c d : ℕ) (r : RequestData) → c < config.cores → IsIn r (sent_to T1 d (history_at w g.calls c).sent) → IsTime (history_at w g.calls c).received r.seen
+  sent_known : (c d : ℕ) (r : RequestData) → c < config.cores → IsIn r (sent_to config.chip d (history_at w g.calls c).sent) → IsTime (history_at w g.calls c).received r.seen
   sent_known c d r lc h = (keeps_here config image runs bytes m g short c lc).sent_times d r h
 
-  pub seen_by_time : (c d : ℕ) (core : CoreState) (r : RequestData) → slice_get m.cores c ≡ Some core → c < config.cores → d < 5 → IsIn r (on_their_way m c d) → r.seen ≤ core.time
+  pub seen_by_time : (c d : ℕ) (core : CoreState) (r : RequestData) → slice_get m.cores c ≡ Some core → c < config.cores → d < 9 → IsIn r (on_their_way m c d) → r.seen ≤ core.time
   seen_by_time c d core r is lc ld h =
-      let sent : IsIn r (sent_to T1 d (history_at w g.calls c).sent) =
-      in_drop (length (answered T1 c d (history_at w g.calls c).received)) r (sent_to T1 d (history_at w g.calls c).sent) (subst (λ (rs : List RequestData). IsIn r rs) (sym (unanswered_here c d lc ld)) h) in
+      let sent : IsIn r (sent_to config.chip d (history_at w g.calls c).sent) =
+      in_drop (length (answered config.chip c d (history_at w g.calls c).received)) r (sent_to config.chip d (history_at w g.calls c).sent) (subst (λ (rs : List RequestData). IsIn r rs) (sym (unanswered_here c d lc ld)) h) in
       elim (sent_known c d r lc sent) [
         | inl z ↦ omega (arith, z)
         | inr q ↦ let l = all_past config image runs bytes m g short c core is q.0 q.1 in let z = q.2 in omega (arith, l, z)
       ]
 
   -- an access that waits to be admitted is seen by then
-  pub seen_in_time : (d : ℕ) (a : Served) (rest : List Served) → d < 5 → get_or m.served d [] ≡ a ∷ rest → a.request.seen ≤ length m.xbar.log
+  pub seen_in_time : (d : ℕ) (a : Served) (rest : List Served) → d < 9 → get_or m.served d [] ≡ a ∷ rest → a.request.seen ≤ length m.xbar.log
   seen_in_time d a rest ld head =
       let c : ℕ = a.request.core in
       let sent = waiting_sent config image runs.blocks m g d a rest ld head in
@@ -123,5 +124,5 @@ module _ (config : Config) (image : Image) (runs : IsRunnable (setup_of config i
   pub always_seen : IsSeenIn m
   always_seen d rooms seen len a rest head e = admission_seen m.xbar d a rooms seen len (seen_in_time d a rest within head) e
     where
-      within : d < 5
+      within : d < 9
       within = let l = not_past m.served d a rest head in omega (arith, l, g.parts.shaped.all_served)

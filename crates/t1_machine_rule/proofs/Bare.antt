@@ -1,4 +1,5 @@
 -- A membar or flush of a strand never gets a place: what happens to a strand keeps this.
+use Rattle.t1_shape.specs.Shapes.{Shape}
 use Rattle.std.proofs.Common.{◌≡◌, ℕ, ◌==◌, false, List, [], ◌∷◌, ◌++◌, length, set, drop, Option, Some, None, refl, sym, subst, inl, inr}
 use Rattle.std.specs.List.{slice_get}
 use Rattle.std.proofs.lemmas.Bool.{cases_Bool}
@@ -15,7 +16,6 @@ use Rattle.t1_exec.specs.declared.need.Need.TheVariants as need
 use Rattle.t1_exec.specs.declared.need.AtomicOp.TheVariants.{Swap, Cas}
 use Rattle.t1_exec.specs.Needs.{need_of}
 use Rattle.t1_exec.specs.Meanings.{after_of}
-use Rattle.t1_shape.specs.Shapes.Shape.{T1}
 use Rattle.t1_packet.specs.Ops.{dest_of}
 use Rattle.t1_sbuf.specs.declared.entry.Entry.{Entry}
 use Rattle.t1_sbuf.specs.Entries.{sent_next}
@@ -88,7 +88,7 @@ more_items items y old new i x h =
 
 -- ---- what happens to a strand
 
-module _ (ram : ℕ) where
+module _ (chip : Shape) (ram : ℕ) where
   -- one item more, and another state and phase
   pub item_bare : (t : ThreadState) (y : Item) (s : Strand) (p : Phase) → IsBare ram t → IsBareItem y → AsksRead ram s p → IsBare ram (record t { strand = s; items = t.items ++ y ∷ []; phase = p })
   item_bare t y s p b i a = record {
@@ -151,11 +151,11 @@ module _ (ram : ℕ) where
   stores_push items [] e a s = (s, tt)
   stores_push items (f ∷ es) e a s = (a.0, stores_push items es e a.1 s)
 
-  pub stored_bare : (t : ThreadState) (addr size value : ℕ) → IsBare ram t → IsBare ram (stored t addr size value)
+  pub stored_bare : (t : ThreadState) (addr size value : ℕ) → IsBare ram t → IsBare ram (stored chip t addr size value)
   unfolding stored unit_done
   stored_bare t addr size value b =
       let y : Item = store_item addr size value in
-      let e : Entry = record { item = length t.items; addr = addr; size = size; value = value; sent = false; dest = dest_of T1 addr } in
+      let e : Entry = record { item = length t.items; addr = addr; size = size; value = value; sent = false; dest = dest_of chip addr } in
       let s : Strand = after_of t.strand (insn_of (word_of t.phase)) 0 in
       record {
         items = more_items t.items y b.items (bare_access y refl);

@@ -1,9 +1,9 @@
 -- No call of a core gives a place to a membar or flush.
+use Rattle.t1_shape.specs.Shapes.{Shape}
 use Rattle.std.proofs.Common.{◌≡◌, ℕ, ◌*◌, ◌-◌, ◌^◌, ◌==◌, ◌&&◌, ◌||◌, nat_lt, Bool, true, false, if◌then◌else◌, List, [], ◌∷◌, length, set, Option, Some, None, refl, sym, subst, inl, inr}
 use Rattle.std.specs.List.{slice_get, slice_index}
 use Rattle.std.proofs.lemmas.Bool.{cases_Bool}
 use Rattle.std.proofs.lemmas.Option.{slice_get_within}
-use Rattle.t1_shape.specs.Shapes.Shape.{T1}
 use Rattle.t1_decode.specs.Words.{insn_of}
 use Rattle.t1_state.specs.Interrupts.{due_of}
 use Rattle.t1_exec.specs.declared.need.Need.{Need}
@@ -83,7 +83,7 @@ plan_reads es (need.Atomic addr size o) h = tt
 module _ (x : Asker) (t : ThreadState) (b : IsBare x.ram t) where
   asked_bare : (o : Op) (p : Phase) → AsksRead x.ram t.strand p → IsBare x.ram (asked x t o p).thread
   unfolding asked
-  asked_bare o p a = elim (cases_Bool (has_room x.room (op_dest T1 o))) [ inl e ↦ rw e (phase_bare x.ram t p b a) | inr e ↦ rw e b ]
+  asked_bare o p a = elim (cases_Bool (has_room x.room (op_dest x.chip o))) [ inl e ↦ rw e (phase_bare x.chip x.ram t p b a) | inr e ↦ rw e b ]
 
   fetch_bare : (icache : CacheState) → IsBare x.ram (asked_fetch x icache t).thread
   unfolding asked_fetch
@@ -94,27 +94,27 @@ module _ (x : Asker) (t : ThreadState) (b : IsBare x.ram t) where
   data_bare dcache addr r = let way : ℕ = victim_at dcache addr in asked_bare (op_for (thread_need x.ram t) way) (phase.OutData (word_of t.phase) way x.time) r
 
   begin_bare : (icache : CacheState) (due : Option ℕ) (can : Bool) → IsBare x.ram (exec_begin x icache t due can).thread
-  begin_bare icache (Some number) can = trapped_bare x.ram t number b
-  begin_bare icache None false = trapped_bare x.ram t fetch_trap b
+  begin_bare icache (Some number) can = trapped_bare x.chip x.ram t number b
+  begin_bare icache None false = trapped_bare x.chip x.ram t fetch_trap b
   begin_bare icache None true = by (read_of icache t.strand.pc 4)
     where
       by : (o : Option ℕ) → IsBare x.ram (exec_fetch x icache t o).thread
-      by (Some word) = word_bare x.ram t word (Hit x.time) b
+      by (Some word) = word_bare x.chip x.ram t word (Hit x.time) b
       by None = fetch_bare icache
 
   plan_bare : (dcache : CacheState) (p : Plan) → (IsSending p → IsReading (thread_need x.ram t)) → IsBare x.ram (exec_plan x dcache t p).thread
   plan_bare dcache (plan.Waits w) r = b
-  plan_bare dcache (plan.Trap number) r = trapped_bare x.ram t number b
-  plan_bare dcache plan.Act r = act_bare x.ram t b
-  plan_bare dcache plan.Halt r = halted_bare x.ram t b
-  plan_bare dcache (plan.Membar mask) r = unit_bare x.ram t 0 (membar_item mask) b (λ none. refl)
-  plan_bare dcache plan.Flush r = unit_bare x.ram t 0 flush_item b (λ none. refl)
-  plan_bare dcache (plan.Store addr size value) r = stored_bare x.ram t addr size value b
-  plan_bare dcache (plan.Forward addr size value) r = load_bare x.ram t addr size value (Forward x.time) b
+  plan_bare dcache (plan.Trap number) r = trapped_bare x.chip x.ram t number b
+  plan_bare dcache plan.Act r = act_bare x.chip x.ram t b
+  plan_bare dcache plan.Halt r = halted_bare x.chip x.ram t b
+  plan_bare dcache (plan.Membar mask) r = unit_bare x.chip x.ram t 0 (membar_item mask) b (λ none. refl)
+  plan_bare dcache plan.Flush r = unit_bare x.chip x.ram t 0 flush_item b (λ none. refl)
+  plan_bare dcache (plan.Store addr size value) r = stored_bare x.chip x.ram t addr size value b
+  plan_bare dcache (plan.Forward addr size value) r = load_bare x.chip x.ram t addr size value (Forward x.time) b
   plan_bare dcache (plan.Look addr size) r = by (read_of dcache addr size)
     where
       by : (o : Option ℕ) → IsBare x.ram (exec_look x dcache t addr size o).thread
-      by (Some value) = load_bare x.ram t addr size value (Hit x.time) b
+      by (Some value) = load_bare x.chip x.ram t addr size value (Hit x.time) b
       by None = data_bare dcache addr (r tt)
   plan_bare dcache (plan.Send addr) r = data_bare dcache addr (r tt)
 
@@ -131,7 +131,7 @@ module _ (x : Asker) (t : ThreadState) (b : IsBare x.ram t) where
 
   next_bare : (o : Option Entry) → IsBare x.ram (drain_next x t o).thread
   next_bare None = b
-  next_bare (Some e) = elim (cases_Bool (has_room x.room (op_dest T1 (store_op e)))) [ inl h ↦ rw h (sent_bare x.ram t x.time b) | inr h ↦ rw h b ]
+  next_bare (Some e) = elim (cases_Bool (has_room x.room (op_dest x.chip (store_op e)))) [ inl h ↦ rw h (sent_bare x.chip x.ram t x.time b) | inr h ↦ rw h b ]
 
   stores_bare : (es : List Entry) → IsBare x.ram (drain_stores x t es).thread
   stores_bare [] = b
@@ -143,17 +143,17 @@ module _ (x : Asker) (t : ThreadState) (b : IsBare x.ram t) where
 
 -- ---- take
 
-module _ (ram n : ℕ) (r : ReplyData) (a : Answered) (b : IsBare ram a.thread) where
+module _ (chip : Shape) (ram n : ℕ) (r : ReplyData) (a : Answered) (b : IsBare ram a.thread) where
   read_answered : (p : Phase) → a.thread.phase ≡ p → IsBare ram (answered_read ram n r a p).thread
   unfolding thread_need
   read_answered (phase.OutFetch way seen) e =
       elim (cases_Bool (accepts a.dcache a.icache r (length a.thread.items) (op.Fetch a.thread.strand.pc way))) [
-        | inl f ↦ rw f (word_bare ram a.thread r.old (Commit n r.seen) b)
+        | inl f ↦ rw f (word_bare chip ram a.thread r.old (Commit n r.seen) b)
         | inr f ↦ rw f b
       ]
   read_answered (phase.OutData word way seen) e =
       elim (cases_Bool (accepts a.dcache a.icache r (length a.thread.items) (op_for (thread_need ram a.thread) way))) [
-        | inl f ↦ rw f (value_bare ram a.thread r.old (Commit n r.seen) b (asks a.thread.phase e b.asks))
+        | inl f ↦ rw f (value_bare chip ram a.thread r.old (Commit n r.seen) b (asks a.thread.phase e b.asks))
         | inr f ↦ rw f b
       ]
     where
@@ -166,7 +166,7 @@ module _ (ram n : ℕ) (r : ReplyData) (a : Answered) (b : IsBare ram a.thread) 
   store_answered : (o : Option Entry) → slice_get a.thread.stores 0 ≡ o → IsBare ram (answered_store n r a o).thread
   store_answered None e = b
   store_answered (Some f) e =
-      elim (cases_Bool (f.sent && accepts a.dcache a.icache r f.item (store_op f))) [ inl h ↦ rw h (acknowledged_bare ram a.thread f (Commit n r.seen) e b) | inr h ↦ rw h b ]
+      elim (cases_Bool (f.sent && accepts a.dcache a.icache r f.item (store_op f))) [ inl h ↦ rw h (acknowledged_bare chip ram a.thread f (Commit n r.seen) e b) | inr h ↦ rw h b ]
 
   answer_bare : IsBare ram (thread_answer ram n r a).thread
   unfolding thread_answer
@@ -233,7 +233,7 @@ answered_bare c n (Some r) a = by (slice_get c.threads r.strand) refl
     by None e = a
     by (Some t) e =
         set_bare c.ram c.threads r.strand t (thread_answer c.ram n r (record { thread = t; dcache = c.dcache; icache = c.icache })).thread e a
-        (answer_bare c.ram n r (record { thread = t; dcache = c.dcache; icache = c.icache }) (a r.strand t e))
+        (answer_bare c.chip c.ram n r (record { thread = t; dcache = c.dcache; icache = c.icache }) (a r.strand t e))
 
 take_core : (c : CoreState) (p : Packet) → AreBare c → AreBare (take_of c p)
 unfolding take_of

@@ -1,8 +1,8 @@
 -- The start of the machine keeps what each slot keeps.
+use Rattle.t1_shape.specs.Numbers.{banks}
 use Rattle.std.proofs.Common.{◌≡◌, ℕ, zero, suc, ◌+◌, ◌*◌, ◌<◌, List, [], ◌++◌, get_or, replicate, Option, Some, None, refl, ap, sym, ◌∙◌, subst, arith}
 use Rattle.std.specs.List.{slice_get}
 use Rattle.std.proofs.lemmas.List.{length-replicate}
-use Rattle.t1_shape.specs.Shapes.Shape.{T1}
 use Rattle.t1_packet.specs.declared.packet.Packet.{Packet}
 use Rattle.t1_packet.specs.declared.served.Served.{Served}
 use Rattle.t1_packet.specs.Data.{RequestData}
@@ -41,22 +41,23 @@ unfolding machine_start after_calls
 kept_start config image runs =
     let w : Setup = setup_of config image in
     let cores = cores_length config image.entry 0 config.cores in
-    let none : (d : ℕ) → ◌≡◌ {A = List Served} (get_or (replicate 5 []) d []) [] = λ d. or_replicate 5 [] d in
+    let none : (d : ℕ) → ◌≡◌ {A = List Served} (get_or (replicate 9 []) d []) [] = λ d. or_replicate 9 [] d in
     record {
       parts = record {
         cores = cores;
         shaped = record {
           some = (let l = runs.some_cores in omega (arith, l, cores));
           few = (let l = runs.few_cores in omega (arith, l, cores));
-          all_requests = (let l = length-replicate {A = List RequestData} (5 * config.cores) [] in omega (arith, l, cores));
-          all_served = length-replicate {A = List Served} 5 [];
+          all_requests = (let l = length-replicate {A = List RequestData} (9 * config.cores) [] in omega (arith, l, cores));
+          all_served = length-replicate {A = List Served} 9 [];
           all_replies = (let l = length-replicate {A = List Packet} config.cores [] in omega (arith, l, cores));
-          all_banks = banks_length w 0 4;
-          all_tried = length-replicate {A = ℕ} 5 0;
+          all_banks = banks_length w 0 (banks config.chip);
+          all_tried = length-replicate {A = ℕ} 9 0;
         };
-        tried = λ d. (let z = zeros 5 d in let l = runs.some_cores in omega (arith, z, l));
+        tried = λ d. (let z = zeros 9 d in let l = runs.some_cores in omega (arith, z, l));
         posted = refl;
         strands = refl;
+        chip = refl;
       };
       calls = λ c. [];
       admitted = [];
@@ -66,11 +67,11 @@ kept_start config image runs =
       whole = λ c. tt;
       absent = λ c l. refl;
       requests = λ c d ld.
-          ap (λ (l : List Served). requests_of (asked_by c l) ++ ring_of (replicate (5 * config.cores) []) c d) (none d) ∙ or_replicate (5 * config.cores) [] (5 * c + d);
+          ap (λ (l : List Served). requests_of (asked_by c l) ++ ring_of (replicate (9 * config.cores) []) c d) (none d) ∙ or_replicate (9 * config.cores) [] (9 * c + d);
       replies = λ c l. or_replicate config.cores [] c;
-      served = λ d ld. subst (λ (l : List Served). AreServed T1 d (destination_start w d) l) (sym (none d)) tt;
+      served = λ d ld. subst (λ (l : List Served). AreServed config.chip d (destination_start w d) l) (sym (none d)) tt;
       banks = λ d ld.
-          bank_first w 0 4 d _ ld
+          bank_first w 0 (banks config.chip) d _ ld
           ∙ (ap (λ (j : ℕ). destination_start w j) (let z : 0 + d ≡ d = omega arith in z)
           ∙ ap (λ (l : List Served). bank_after (destination_start w d) (requests_of l)) (sym (none d)));
     }

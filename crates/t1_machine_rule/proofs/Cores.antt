@@ -4,7 +4,6 @@ use Rattle.std.specs.List.{slice_get}
 use Rattle.std.proofs.lemmas.Bool.{cases_eq, eq-eqb, ne_eqb}
 use Rattle.std.proofs.lemmas.List.{append-nil}
 use Rattle.std.proofs.lemmas.Option.{slice_get_within}
-use Rattle.t1_shape.specs.Shapes.Shape.{T1}
 use Rattle.t1_packet.specs.declared.packet.Packet.{Packet}
 use Rattle.t1_packet.specs.Data.{RequestData}
 use Rattle.t1_joint.specs.Start.{Setup}
@@ -60,17 +59,17 @@ module _ (w : Setup) (m : MachineState) (g : Kept w m) (c : ℕ) (core next : Co
 
   -- what each core has sent, where the call sends these
   pub sent_now : (new : List RequestData) → ((h : History) → h.core ≡ core → (after_call h call).sent ≡ h.sent ++ new)
-      → (i e : ℕ) → sent_to T1 e (history_at w (calls_with g.calls c call) i).sent ≡ sent_to T1 e (history_at w g.calls i).sent ++ cond (i == c) (sent_to T1 e new) []
+      → (i e : ℕ) → sent_to w.config.chip e (history_at w (calls_with g.calls c call) i).sent ≡ sent_to w.config.chip e (history_at w g.calls i).sent ++ cond (i == c) (sent_to w.config.chip e new) []
   sent_now new does i e =
       let old : List RequestData = (history_at w g.calls i).sent in
       elim (cases_eq i c) [
         | inl q ↦
-            ap (λ (k : History). sent_to T1 e k.sent) (history_here w g.calls c call i q)
-            ∙ (ap (λ (rs : List RequestData). sent_to T1 e rs) (does (history_at w g.calls i) (core_before i q))
-            ∙ (to_append T1 e old new ∙ sym (ap (λ (b : Bool). sent_to T1 e old ++ cond b (sent_to T1 e new) []) (eq-eqb i c q))))
+            ap (λ (k : History). sent_to w.config.chip e k.sent) (history_here w g.calls c call i q)
+            ∙ (ap (λ (rs : List RequestData). sent_to w.config.chip e rs) (does (history_at w g.calls i) (core_before i q))
+            ∙ (to_append w.config.chip e old new ∙ sym (ap (λ (b : Bool). sent_to w.config.chip e old ++ cond b (sent_to w.config.chip e new) []) (eq-eqb i c q))))
         | inr ne ↦
-            ap (λ (k : History). sent_to T1 e k.sent) (history_there w g.calls c call i ne)
-            ∙ (sym (append-nil (sent_to T1 e old)) ∙ sym (ap (λ (b : Bool). sent_to T1 e old ++ cond b (sent_to T1 e new) []) (ne_eqb i c ne)))
+            ap (λ (k : History). sent_to w.config.chip e k.sent) (history_there w g.calls c call i ne)
+            ∙ (sym (append-nil (sent_to w.config.chip e old)) ∙ sym (ap (λ (b : Bool). sent_to w.config.chip e old ++ cond b (sent_to w.config.chip e new) []) (ne_eqb i c ne)))
       ]
 
   -- and what came to it

@@ -1,11 +1,14 @@
 -- The machine's state is covered.
+use Rattle.t1_num.specs.declared.chip.ChipKind.TheVariants.{T1, T2}
+use Rattle.t1_shape.proofs.Numbers.{banks_are}
+use Rattle.t1_shape.specs.Numbers.{banks}
+use Rattle.t1_shape.specs.Shapes.{Shape}
 use Rattle.std.proofs.Common.{◌≡◌, ◌≢◌, ℕ, zero, suc, ◌+◌, ◌<◌, ◌≤◌, ◌==◌, true, false, List, [], ◌∷◌, ◌++◌, length, get_or, take, Option, Some, None, refl, ap, sym, ◌∙◌, subst, inl, inr, arith, append_assoc}
 use Rattle.std.specs.List.{slice_get, filter}
 use Rattle.std.proofs.lemmas.Bool.{cases_eq, cases_lt, eq-eqb, ne_eqb}
 use Rattle.std.proofs.lemmas.List.{append-nil, take_all}
 use Rattle.std.proofs.lemmas.List.Elements.{filter-append}
 use Rattle.t1_num.specs.MemoryLaws.{AreBytes}
-use Rattle.t1_shape.specs.Shapes.Shape.{T1}
 use Rattle.t1_shape.specs.Slots.{Line, InSet, tags_of}
 use Rattle.t1_packet.specs.declared.cache.Cache.{Cache}
 use Rattle.t1_packet.specs.declared.cache.Cache.TheVariants.{Dcache, Icache}
@@ -49,38 +52,42 @@ use Rattle.t1_machine_rule.proofs.Fits.{own_past, setup, core_within}
 use Rattle.t1_machine_rule.proofs.Times.{all_past, caches_by_packets}
 use Rattle.t1_machine_rule.proofs.Wells.{access_lawful}
 
-own_all : (d : ℕ) (ss : List Served) → ((i : ℕ) (a : Served) → slice_get ss i ≡ Some a → op_dest T1 a.request.op ≡ d) → served_at T1 d ss ≡ ss
-own_all d [] at = refl
-own_all d (a ∷ ss) at =
-    let t : (op_dest T1 a.request.op == d) ≡ true = eq-eqb (op_dest T1 a.request.op) d (at 0 a refl) in
-    rw t (ap (λ (l : List Served). a ∷ l) (own_all d ss (λ i b h. at (suc i) b h)))
+own_all : (chip : Shape) (d : ℕ) (ss : List Served) → ((i : ℕ) (a : Served) → slice_get ss i ≡ Some a → op_dest chip a.request.op ≡ d) → served_at chip d ss ≡ ss
+own_all chip d [] at = refl
+own_all chip d (a ∷ ss) at =
+    let t : (op_dest chip a.request.op == d) ≡ true = eq-eqb (op_dest chip a.request.op) d (at 0 a refl) in
+    rw t (ap (λ (l : List Served). a ∷ l) (own_all chip d ss (λ i b h. at (suc i) b h)))
 
-own_none : (d : ℕ) (ss : List Served) → ((i : ℕ) (a : Served) → slice_get ss i ≡ Some a → op_dest T1 a.request.op ≢ d) → served_at T1 d ss ≡ []
-own_none d [] at = refl
-own_none d (a ∷ ss) at =
-    let t : (op_dest T1 a.request.op == d) ≡ false = ne_eqb (op_dest T1 a.request.op) d (at 0 a refl) in
-    rw t (own_none d ss (λ i b h. at (suc i) b h))
+own_none : (chip : Shape) (d : ℕ) (ss : List Served) → ((i : ℕ) (a : Served) → slice_get ss i ≡ Some a → op_dest chip a.request.op ≢ d) → served_at chip d ss ≡ []
+own_none chip d [] at = refl
+own_none chip d (a ∷ ss) at =
+    let t : (op_dest chip a.request.op == d) ≡ false = ne_eqb (op_dest chip a.request.op) d (at 0 a refl) in
+    rw t (own_none chip d ss (λ i b h. at (suc i) b h))
 
 -- a line stands in a set of its bank
-set_bank : (cache : Cache) (line slot : ℕ) → InSet (layout T1 cache) line slot → bank_of T1 cache line ≡ bank_of_slot T1 cache slot
-set_bank Dcache line slot i = let a = i.above in let b = i.below in omega (arith, a, b)
-set_bank Icache line slot i = let a = i.above in let b = i.below in omega (arith, a, b)
+set_bank : (chip : Shape) (cache : Cache) (line slot : ℕ) → InSet (layout chip cache) line slot → bank_of chip cache line ≡ bank_of_slot chip cache slot
+set_bank T1 Dcache line slot i = let a = i.above in let b = i.below in omega (arith, a, b)
+set_bank T1 Icache line slot i = let a = i.above in let b = i.below in omega (arith, a, b)
+set_bank T2 Dcache line slot i = let a = i.above in let b = i.below in omega (arith, a, b)
+set_bank T2 Icache line slot i = let a = i.above in let b = i.below in omega (arith, a, b)
 
 -- what a slot of a bank's set holds is kept in the bank's part
-slot_kept : (cache : Cache) (tags : List (Option ℕ)) (slot : ℕ) → ((line : ℕ) → get_or tags slot None ≡ Some line → InSet (layout T1 cache) line slot)
-    → get_or (part T1 (bank_of_slot T1 cache slot) cache tags) slot None ≡ get_or tags slot None
-slot_kept cache tags slot own = part_at T1 (bank_of_slot T1 cache slot) cache tags slot ∙ by (get_or tags slot None) refl
+slot_kept : (chip : Shape) (cache : Cache) (tags : List (Option ℕ)) (slot : ℕ) → ((line : ℕ) → get_or tags slot None ≡ Some line → InSet (layout chip cache) line slot)
+    → get_or (part chip (bank_of_slot chip cache slot) cache tags) slot None ≡ get_or tags slot None
+slot_kept chip cache tags slot own = part_at chip (bank_of_slot chip cache slot) cache tags slot ∙ by (get_or tags slot None) refl
   where
-    by : (o : Option ℕ) → get_or tags slot None ≡ o → keep T1 (bank_of_slot T1 cache slot) cache o ≡ o
+    by : (o : Option ℕ) → get_or tags slot None ≡ o → keep chip (bank_of_slot chip cache slot) cache o ≡ o
     by None e = refl
-    by (Some line) e = keep_same T1 (bank_of_slot T1 cache slot) cache line (set_bank cache line slot (own line e))
+    by (Some line) e = keep_same chip (bank_of_slot chip cache slot) cache line (set_bank chip cache line slot (own line e))
 
-bank_small : (cache : Cache) (slot : ℕ) → bank_of_slot T1 cache slot < 4
-bank_small Dcache slot = omega arith
-bank_small Icache slot = omega arith
+bank_small : (chip : Shape) (cache : Cache) (slot : ℕ) → bank_of_slot chip cache slot < banks chip
+bank_small T1 Dcache slot = omega arith
+bank_small T1 Icache slot = omega arith
+bank_small T2 Dcache slot = omega arith
+bank_small T2 Icache slot = omega arith
 
 module _ (config : Config) (image : Image) (runs : IsRunnable (setup_of config image)) (bytes : AreBytes image.ram) (m : MachineState) (g : Kept (setup_of config image) m)
-    (short : length m.xbar.log ≤ 4294967295) (b : ℕ) (lb : b < 4) where
+    (short : length m.xbar.log ≤ 4294967295) (b : ℕ) (lb : b < banks config.chip) where
   abbrev w : Setup
   w = setup_of config image
 
@@ -88,20 +95,20 @@ module _ (config : Config) (image : Image) (runs : IsRunnable (setup_of config i
   abbrev all : List Served
   all = g.admitted ++ get_or m.served b []
 
-  right_of : (d : ℕ) (a : Served) (i : ℕ) → d < 5 → slice_get (ever_served T1 g.admitted m.served d) i ≡ Some a → IsRight w a.request × (op_dest T1 a.request.op ≡ d)
+  right_of : (d : ℕ) (a : Served) (i : ℕ) → d < 9 → slice_get (ever_served config.chip g.admitted m.served d) i ≡ Some a → IsRight w a.request × (op_dest config.chip a.request.op ≡ d)
   right_of d a i ld is =
       let s = sent_is config image runs.blocks m g a.request.core d a.request (served_sent config image runs.blocks m g d i a ld is) in
       (record { core = s.small; strand = s.meant.strand_is; asked = s.meant.asked }, s.meant.dest_is)
 
-  in_ring : (i : ℕ) (a : Served) → slice_get (get_or m.served b []) i ≡ Some a → IsRight w a.request × (op_dest T1 a.request.op ≡ b)
+  in_ring : (i : ℕ) (a : Served) → slice_get (get_or m.served b []) i ≡ Some a → IsRight w a.request × (op_dest config.chip a.request.op ≡ b)
   in_ring i a e =
-      right_of b a (length (served_at T1 b g.admitted) + i) (omega (arith, lb)) (slice_right (served_at T1 b g.admitted) (get_or m.served b []) i a e)
+      right_of b a (length (served_at config.chip b g.admitted) + i) (omega (arith, lb, (banks_are config.chip).1)) (slice_right (served_at config.chip b g.admitted) (get_or m.served b []) i a e)
 
   in_log : (n : ℕ) (a : Served) → slice_get g.admitted n ≡ Some a → IsRight w a.request
   in_log n a e =
-      let d : ℕ = op_dest T1 a.request.op in
-      let at = own_in d g.admitted n a e refl in
-      (right_of d a at.0 (dest_small a.request.op) (front (served_at T1 d g.admitted) (get_or m.served d []) at.0 a at.1)).0
+      let d : ℕ = op_dest config.chip a.request.op in
+      let at = own_in config.chip d g.admitted n a e refl in
+      (right_of d a at.0 (dest_small config.chip a.request.op) (front (served_at config.chip d g.admitted) (get_or m.served d []) at.0 a at.1)).0
     where
       front : (xs ys : List Served) (i : ℕ) (a : Served) → slice_get xs i ≡ Some a → slice_get (xs ++ ys) i ≡ Some a
       front [] ys i a e = let clash : ◌≡◌ {A = Option Served} None (Some a) = e in cc
@@ -115,31 +122,31 @@ module _ (config : Config) (image : Image) (runs : IsRunnable (setup_of config i
         | inr p ↦ (in_ring p.0 a p.1).0
       ]
 
-  own_split : (d : ℕ) → served_at T1 d (g.admitted ++ get_or m.served b []) ≡ served_at T1 d g.admitted ++ served_at T1 d (get_or m.served b [])
-  own_split d = filter-append (λ (v : Served). op_dest T1 v.request.op == d) g.admitted (get_or m.served b [])
+  own_split : (d : ℕ) → served_at config.chip d (g.admitted ++ get_or m.served b []) ≡ served_at config.chip d g.admitted ++ served_at config.chip d (get_or m.served b [])
+  own_split d = filter-append (λ (v : Served). op_dest config.chip v.request.op == d) g.admitted (get_or m.served b [])
 
-  own_b : served_at T1 b (g.admitted ++ get_or m.served b []) ≡ ever_served T1 g.admitted m.served b
-  own_b = own_split b ∙ ap (λ (l : List Served). served_at T1 b g.admitted ++ l) (own_all b (get_or m.served b []) (λ i a h. (in_ring i a h).1))
+  own_b : served_at config.chip b (g.admitted ++ get_or m.served b []) ≡ ever_served config.chip g.admitted m.served b
+  own_b = own_split b ∙ ap (λ (l : List Served). served_at config.chip b g.admitted ++ l) (own_all config.chip b (get_or m.served b []) (λ i a h. (in_ring i a h).1))
 
-  served_small : (d : ℕ) → d < 5 → AreServed T1 d (destination_start w d) (served_at T1 d (g.admitted ++ get_or m.served b []))
+  served_small : (d : ℕ) → d < 9 → AreServed config.chip d (destination_start w d) (served_at config.chip d (g.admitted ++ get_or m.served b []))
   served_small d l =
       elim (cases_eq d b) [
         | inl e ↦
-            subst (λ (i : ℕ). AreServed T1 i (destination_start w i) (served_at T1 i (g.admitted ++ get_or m.served b []))) (sym e)
-            (subst (λ (ss : List Served). AreServed T1 b (destination_start w b) ss) (sym own_b) (g.served b (omega (arith, lb))))
+            subst (λ (i : ℕ). AreServed config.chip i (destination_start w i) (served_at config.chip i (g.admitted ++ get_or m.served b []))) (sym e)
+            (subst (λ (ss : List Served). AreServed config.chip b (destination_start w b) ss) (sym own_b) (g.served b (omega (arith, lb, (banks_are config.chip).1))))
         | inr ne ↦
-            let none : served_at T1 d (g.admitted ++ get_or m.served b []) ≡ served_at T1 d g.admitted =
-            own_split d ∙ (ap (λ (l : List Served). served_at T1 d g.admitted ++ l) (own_none d (get_or m.served b []) (λ i a h f. ne (sym f ∙ (in_ring i a h).1)))
-            ∙ append-nil (served_at T1 d g.admitted)) in
-            subst (λ (ss : List Served). AreServed T1 d (destination_start w d) ss) (sym none)
-            (served_front T1 d (destination_start w d) (served_at T1 d g.admitted) (get_or m.served d []) (g.served d l))
+            let none : served_at config.chip d (g.admitted ++ get_or m.served b []) ≡ served_at config.chip d g.admitted =
+            own_split d ∙ (ap (λ (l : List Served). served_at config.chip d g.admitted ++ l) (own_none config.chip d (get_or m.served b []) (λ i a h f. ne (sym f ∙ (in_ring i a h).1)))
+            ∙ append-nil (served_at config.chip d g.admitted)) in
+            subst (λ (ss : List Served). AreServed config.chip d (destination_start w d) ss) (sym none)
+            (served_front config.chip d (destination_start w d) (served_at config.chip d g.admitted) (get_or m.served d []) (g.served d l))
       ]
 
-  served : (d : ℕ) → AreServed T1 d (destination_start w d) (served_at T1 d (g.admitted ++ get_or m.served b []))
+  served : (d : ℕ) → AreServed config.chip d (destination_start w d) (served_at config.chip d (g.admitted ++ get_or m.served b []))
   served d =
-      elim (cases_lt d 5) [
+      elim (cases_lt d 9) [
         | inl l ↦ served_small d l
-        | inr l ↦ subst (λ (ss : List Served). AreServed T1 d (destination_start w d) ss) (sym (own_past d (g.admitted ++ get_or m.served b []) l)) tt
+        | inr l ↦ subst (λ (ss : List Served). AreServed config.chip d (destination_start w d) ss) (sym (own_past config.chip d (g.admitted ++ get_or m.served b []) l)) tt
       ]
 
   posted : (n : ℕ) (a : Served) → slice_get (g.admitted ++ get_or m.served b []) n ≡ Some a → IsPosted w (g.admitted ++ get_or m.served b []) n a
@@ -151,9 +158,9 @@ module _ (config : Config) (image : Image) (runs : IsRunnable (setup_of config i
   few : FewKills (log_of w (g.admitted ++ get_or m.served b []))
   few n core c is =
       let at = at_log w (g.admitted ++ get_or m.served b []) n c is in
-      let d : ℕ = op_dest T1 at.0.request.op in
-      let own = own_in d (g.admitted ++ get_or m.served b []) n at.0 at.1 refl in
-      let law = access_lawful config image runs d (served_at T1 d (g.admitted ++ get_or m.served b [])) own.0 at.0 (served d) own.1 in
+      let d : ℕ = op_dest config.chip at.0.request.op in
+      let own = own_in config.chip d (g.admitted ++ get_or m.served b []) n at.0 at.1 refl in
+      let law = access_lawful config image runs d (served_at config.chip d (g.admitted ++ get_or m.served b [])) own.0 at.0 (served d) own.1 in
       subst (λ (v : Commit). length (filter (λ (k : KillData). k.core == core) v.kills) ≤ 8) (sym at.2) (law.few core)
 
   abbrev count : ℕ
@@ -162,9 +169,9 @@ module _ (config : Config) (image : Image) (runs : IsRunnable (setup_of config i
   abbrev log : List Commit
   log = log_of (setup_of config image) (g.admitted ++ get_or m.served b [])
 
-  whole_is : IsWhole T1 config.strands log count
+  whole_is : IsWhole config.chip config.strands log count
   whole_is =
-      whole T1 config.strands config.cores log
+      whole config.chip config.strands config.cores log
       (commits.ruled w (setup config image runs bytes m g short) (g.admitted ++ get_or m.served b []) served right)
       (commits.fills w (setup config image runs bytes m g short) (g.admitted ++ get_or m.served b []) served right) count
 
@@ -186,44 +193,49 @@ module _ (config : Config) (image : Image) (runs : IsRunnable (setup_of config i
     all_taken : take count (g.admitted ++ get_or m.served b []) ≡ g.admitted ++ get_or m.served b []
     all_taken = take_all count (g.admitted ++ get_or m.served b []) (omega arith)
 
+    -- the tags by this chip's caches
+    abbrev tags_by : Shape → List (Option ℕ)
+    tags_by k = tags_of (slots_after k c cache (slots_of cache core) (in_flight m c b))
+
     -- the cache once they came
-    slots_are : slots_after T1 c cache (slots_of cache core) (in_flight m c b) ≡ l1_at T1 config.strands image.ram log c cache count
+    slots_are : slots_after config.chip c cache (slots_of cache core) (in_flight m c b) ≡ l1_at config.chip config.strands image.ram log c cache count
     slots_are =
         let came : List Packet = (history_at w g.calls c).received in
-        let now : slots_of cache core ≡ slots_after T1 c cache (no_lines T1 cache) came =
+        let now : slots_of cache core ≡ slots_after config.chip c cache (no_lines config.chip cache) came =
         caches_by_packets config image runs bytes m g short c core is cache
-        ∙ ap (λ (ps : List Packet). slots_after T1 c cache (no_lines T1 cache) ps) (before_all core.time came (all_past config image runs bytes m g short c core is)) in
-        ap (λ (l : List (Option Line)). slots_after T1 c cache l (in_flight m c b)) now
-        ∙ (sym (slots-append T1 c cache (no_lines T1 cache) came (in_flight m c b))
-        ∙ (ap (λ (ps : List Packet). slots_after T1 c cache (no_lines T1 cache) ps) packets
-        ∙ (ap (λ (xs : List Served). slots_after T1 c cache (no_lines T1 cache) (posts_from c 0 xs)) (sym all_taken)
+        ∙ ap (λ (ps : List Packet). slots_after config.chip c cache (no_lines config.chip cache) ps) (before_all core.time came (all_past config image runs bytes m g short c core is)) in
+        ap (λ (l : List (Option Line)). slots_after config.chip c cache l (in_flight m c b)) now
+        ∙ (sym (slots-append config.chip c cache (no_lines config.chip cache) came (in_flight m c b))
+        ∙ (ap (λ (ps : List Packet). slots_after config.chip c cache (no_lines config.chip cache) ps) packets
+        ∙ (ap (λ (xs : List Served). slots_after config.chip c cache (no_lines config.chip cache) (posts_from c 0 xs)) (sym all_taken)
         ∙ after_posts w (g.admitted ++ get_or m.served b []) posted c cache count (omega arith))))
 
-    tags_are : tags_with m c core cache b ≡ directory_at T1 config.strands log c cache count
-    tags_are = ap tags_of slots_are ∙ covered T1 image.ram config.strands log few c cache count
+    tags_are : tags_by config.chip ≡ directory_at config.chip config.strands log c cache count
+    tags_are = ap tags_of slots_are ∙ covered config.chip image.ram config.strands log few c cache count
 
     -- what the bank shows
-    shown_are : shown_by m b c cache ≡ part T1 b cache (directory_at T1 config.strands log c cache count)
+    shown_are : shown_by m b c cache ≡ part config.chip b cache (directory_at config.chip config.strands log c cache count)
     shown_are =
         let start : BankState = destination_start w b in
         let made : machine.bank_of m.banks b ≡ banks.state w (setup config image runs bytes m g short) (g.admitted ++ get_or m.served b []) served right b count =
         g.banks b lb
-        ∙ (sym (after_is b start (ever_served T1 g.admitted m.served b) lb)
-        ∙ (ap (λ (xs : List Served). after T1 b start xs) (sym own_b)
-        ∙ ap (λ (xs : List Served). after T1 b start (served_at T1 b xs)) (sym all_taken))) in
+        ∙ (sym (after_is config.chip b start (ever_served config.chip g.admitted m.served b) lb)
+        ∙ (ap (λ (xs : List Served). after config.chip b start xs) (sym own_b)
+        ∙ ap (λ (xs : List Served). after config.chip b start (served_at config.chip b xs)) (sym all_taken))) in
         ap (λ (v : BankState). tags_at v.directory c cache) made
         ∙ ((banks.bank_is w (setup config image runs bytes m g short) (g.admitted ++ get_or m.served b []) served right b count lb).tags c cache within
         ∙ whole_is.part_is b c cache)
 
-    pub slot_covered : (slot : ℕ) → bank_of_slot T1 cache slot ≡ b → get_or (tags_with m c core cache b) slot None ≡ get_or (shown_by m b c cache) slot None
+    pub slot_covered : (slot : ℕ) → bank_of_slot config.chip cache slot ≡ b → get_or (tags_by config.chip) slot None ≡ get_or (shown_by m b c cache) slot None
     slot_covered slot of =
-        let tags : List (Option ℕ) = directory_at T1 config.strands log c cache count in
-        let same : get_or (part T1 b cache tags) slot None ≡ get_or tags slot None =
-        subst (λ (k : ℕ). get_or (part T1 k cache tags) slot None ≡ get_or tags slot None) of (slot_kept cache tags slot (λ line e. (whole_is.once c cache).own slot line e)) in
+        let tags : List (Option ℕ) = directory_at config.chip config.strands log c cache count in
+        let same : get_or (part config.chip b cache tags) slot None ≡ get_or tags slot None =
+        subst (λ (k : ℕ). get_or (part config.chip k cache tags) slot None ≡ get_or tags slot None) of (slot_kept config.chip cache tags slot (λ line e. (whole_is.once c cache).own slot line e)) in
         ap (λ (ts : List (Option ℕ)). get_or ts slot None) tags_are ∙ (sym same ∙ ap (λ (ts : List (Option ℕ)). get_or ts slot None) (sym shown_are))
 
 -- the whole state
 pub state_covered : (config : Config) (image : Image) (runs : IsRunnable (setup_of config image)) → AreBytes image.ram → (m : MachineState) → Kept (setup_of config image) m → length m.xbar.log ≤ 4294967295
     → IsCoveredState m
 state_covered config image runs bytes m g short c slot cache core is l =
-    slot_covered config image runs bytes m g short (bank_of_slot T1 cache slot) (bank_small cache slot) c cache core is slot refl
+    subst (λ (k : Shape). get_or (tags_of (slots_after k c cache (slots_of cache core) (in_flight m c (bank_of_slot k cache slot)))) slot None ≡ get_or (shown_by m (bank_of_slot k cache slot) c cache) slot None)
+    (sym g.parts.chip) (slot_covered config image runs bytes m g short (bank_of_slot config.chip cache slot) (bank_small config.chip cache slot) c cache core is slot refl)

@@ -1,4 +1,5 @@
 -- A machine whose cores are over: its traces and log are a joint history, which can be listed by keys.
+use Rattle.t1_shape.proofs.Numbers.{strands_are}
 use Rattle.std.proofs.Common.{◌≡◌, ℕ, zero, suc, ◌*◌, ◌<◌, ◌≤◌, true, List, [], ◌∷◌, length, get_or, Some, refl, ap, ◌∙◌, subst, arith}
 use Rattle.std.specs.Prelude.{All}
 use Rattle.std.specs.List.{slice_get, count_by}
@@ -74,8 +75,8 @@ module _ (config : Config) (image : Image) (runs : IsRunnable (setup_of config i
   pub count_is : length (traces_in m.cores) ≡ config.cores * config.strands
   count_is = history.all_strands
 
-  pub count_few : length (traces_in m.cores) ≤ 32
-  count_few = (let e = count_is in let l = mul-le config.cores config.strands 8 4 runs.few_cores runs.few_strands in omega (arith, e, l))
+  pub count_few : length (traces_in m.cores) ≤ 64
+  count_few = (let e = count_is in let few : config.strands ≤ 8 = (let l = runs.few_strands in omega (arith, l, (strands_are config.chip).1)) in let l = mul-le config.cores config.strands 8 8 runs.few_cores few in omega (arith, e, l))
 
   pub accesses_few : accesses_in (items_of (traces_in m.cores)) ≤ most_commits config
   accesses_few =

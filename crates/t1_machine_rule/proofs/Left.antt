@@ -108,19 +108,19 @@ module _ (w : Setup) (m : MachineState) (g : Kept w m) (over : IsOver w m) where
       by None e = refl
       by (Some core) e = ap (λ (ps : List Packet). take_from m c core ps) (over.replies c (within c core e))
 
-  serve_none : (d : ℕ) → d < 5 → (b : Bool) → serve_if m d b ≡ None
+  serve_none : (d : ℕ) → d < 9 → (b : Bool) → serve_if m d b ≡ None
   serve_none d l false = refl
   serve_none d l true =
       let first : get_or m.tried d 0 < length m.cores = (let t = g.parts.tried d in let e = g.parts.cores in omega (arith, t, e)) in
       ap (λ (o : Option ℕ). serve_core m d o)
       (asks_none m.requests (length m.cores) d (get_or m.tried d 0) (length m.cores) first (λ j lj. over.requests j d (let e = g.parts.cores in omega (arith, lj, e)) l))
 
-  admit_none : (d : ℕ) → d < 5 → admit_from m d (get_or m.served d []) ≡ None
+  admit_none : (d : ℕ) → d < 9 → admit_from m d (get_or m.served d []) ≡ None
   admit_none d l = ap (λ (ss : List Served). admit_from m d ss) (over.served d l)
 
   pub no_slot_is_left : NoneEnabled m
   no_slot_is_left n l =
-      slot_cases (λ (s : Slot). is_enabled m s ≡ false) n l
+      slot_cases m.chip (λ (s : Slot). is_enabled m s ≡ false) n l
       (λ c lc. none_some (stepped m (slot.Exec c)) (exec_none c))
       (λ c s lc ls. none_some (stepped m (slot.Drain c s)) (drain_none c s))
       (λ c lc. none_some (stepped m (slot.Take c)) (take_none c))

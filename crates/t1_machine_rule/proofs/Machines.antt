@@ -2,7 +2,6 @@
 use Rattle.std.proofs.Common.{◌≤◌, length, arith}
 use Rattle.t1_num.specs.MemoryLaws.{AreBytes}
 use Rattle.t1_shape.specs.Shapes.{Shape}
-use Rattle.t1_shape.specs.Shapes.Shape.{T1}
 use Rattle.t1_event.specs.declared.report.Config.{Config}
 use Rattle.t1_event.specs.Items.{items_of}
 use Rattle.t1_event.specs.Keys.{IsOrderByKeys}
@@ -28,11 +27,7 @@ OfMachine P w m = IsRunnable w → AreBytes w.image.ram → Kept w m → length 
 
 of_machine : (P : Setup → MachineState → Type 0) → ((config : Config) (image : Image) (m : MachineState) → OfMachine P (setup_of config image) m)
     → (w : Setup) (m : MachineState) → IsRunOf w m → NoneEnabled m → P w m
-of_machine P all w m r = by w.shape w.config w.image r.runnable r.bytes (kept_run w m r) (let l = log_is_short w m r in omega (arith, l))
-  where
-    by : (shape : Shape) (config : Config) (image : Image) → let w : Setup = record { shape = shape; config = config; image = image } in
-        IsRunnable w → AreBytes w.image.ram → Kept w m → length m.xbar.log ≤ 4294967295 → NoneEnabled m → P w m
-    by T1 config image runs bytes g short none = all config image m runs bytes g short none
+of_machine P all w m r none = all w.config w.image m r.runnable r.bytes (kept_run w m r) (let l = log_is_short w m r in omega (arith, l)) none
 
 pub never_stuck : MachinesAreNeverStuck
 never_stuck = of_machine (λ w m. IsOver w m) (λ config image m runs bytes g short none. idle_is_over config image runs bytes m g short none)

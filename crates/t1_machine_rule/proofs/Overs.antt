@@ -1,8 +1,8 @@
 -- A machine whose cores are over: its parts are over, and its traces are those of its parts.
+use Rattle.t1_shape.specs.Shapes.{Shape}
 use Rattle.std.proofs.Common.{◌≡◌, ℕ, zero, suc, ◌+◌, ◌≤◌, true, List, [], ◌∷◌, ◌++◌, length, map, Option, Some, None, refl, ap, ◌∙◌, subst, inl, inr, ◌⊎◌, arith}
 use Rattle.std.specs.List.{slice_get}
 use Rattle.t1_num.specs.MemoryLaws.{AreBytes}
-use Rattle.t1_shape.specs.Shapes.Shape.{T1}
 use Rattle.t1_event.specs.declared.report.Config.{Config}
 use Rattle.t1_event.specs.declared.trace.Trace.{Trace}
 use Rattle.t1_elf.specs.declared.object.Image.{Image}
@@ -57,9 +57,9 @@ abbrev traces_or : Option CoreState → List Trace
 traces_or None = []
 traces_or (Some core) = traces_of core
 
-part_traces : (h : History) (o : Option CoreState) → (core_part T1 h o).traces ≡ traces_or o
-part_traces h None = refl
-part_traces h (Some core) = refl
+part_traces : (chip : Shape) (h : History) (o : Option CoreState) → (core_part chip h o).traces ≡ traces_or o
+part_traces chip h None = refl
+part_traces chip h (Some core) = refl
 
 flat_is : (cores : List CoreState) (part : ℕ → CorePart) (b n : ℕ) → length cores ≡ n → ((i : ℕ) → (part (b + i)).traces ≡ traces_or (slice_get cores i)) → traces_from part b n ≡ traces_in cores
 flat_is [] part b zero l at = refl
@@ -78,8 +78,8 @@ module _ (config : Config) (image : Image) (runs : IsRunnable (setup_of config i
 
   pub traces_are : fit.traces_of w (parts config image runs bytes m g short) ≡ traces_in m.cores
   traces_are =
-      flat_is m.cores (λ c. core_part T1 (history_at w g.calls c) (slice_get m.cores c)) 0 config.cores g.parts.cores
-      (λ i. part_traces (history_at w g.calls (0 + i)) (slice_get m.cores (0 + i)) ∙ ap (λ (k : ℕ). traces_or (slice_get m.cores k)) (let z : 0 + i ≡ i = omega arith in z))
+      flat_is m.cores (λ c. core_part config.chip (history_at w g.calls c) (slice_get m.cores c)) 0 config.cores g.parts.cores
+      (λ i. part_traces config.chip (history_at w g.calls (0 + i)) (slice_get m.cores (0 + i)) ∙ ap (λ (k : ℕ). traces_or (slice_get m.cores k)) (let z : 0 + i ≡ i = omega arith in z))
 
   pub over_parts : ((c : ℕ) (core : CoreState) → slice_get m.cores c ≡ Some core → finished_of core ≡ true) → AreOver w (parts config image runs bytes m g short)
   over_parts done c s lc ls =

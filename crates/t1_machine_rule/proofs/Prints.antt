@@ -5,7 +5,6 @@ use Rattle.std.specs.List.{slice_get}
 use Rattle.std.proofs.lemmas.Option.{slice_get-get_or}
 use Rattle.t1_num.specs.Memory.{IsSize}
 use Rattle.t1_num.specs.MemoryLaws.{AreBytes}
-use Rattle.t1_shape.specs.Shapes.Shape.{T1}
 use Rattle.t1_packet.specs.declared.served.Served.{Served}
 use Rattle.t1_packet.specs.Ops.{op_dest}
 use Rattle.t1_event.specs.declared.report.Config.{Config}
@@ -116,10 +115,10 @@ module _ (config : Config) (image : Image) (runs : IsRunnable (setup_of config i
   commit_text n c is =
       let at = at_log w g.admitted n c (ap (λ (log : List Commit). slice_get log n) (sym g.log) ∙ is) in
       let a : Served = at.0 in
-      let d : ℕ = op_dest T1 a.request.op in
-      let own = own_in d g.admitted n a at.1 refl in
-      let law = access_lawful config image runs d (ever_served T1 g.admitted m.served d) own.0 a (g.served d (dest_small a.request.op))
-      (slice_front (served_at T1 d g.admitted) (get_or m.served d []) own.0 a own.1) in
+      let d : ℕ = op_dest config.chip a.request.op in
+      let own = own_in config.chip d g.admitted n a at.1 refl in
+      let law = access_lawful config image runs d (ever_served config.chip g.admitted m.served d) own.0 a (g.served d (dest_small config.chip a.request.op))
+      (slice_front (served_at config.chip d g.admitted) (get_or m.served d []) own.0 a own.1) in
       record {
         evicted = subst (λ (v : Commit). IsEvictedAddress v.evicted) (sym at.2) (evicted_text a.evicted law.evicted);
         kills = subst (λ (v : Commit). length v.kills ≤ 64) (sym at.2) (let k = law.kills in let few = runs.few_cores in omega (arith, k, few));

@@ -1,8 +1,10 @@
 -- The rings after a push: of a request, and of the packets of an access.
+use Rattle.t1_shape.specs.Numbers.{destinations}
+use Rattle.t1_packet.proofs.Caches.{dest_below, dest_in}
+use Rattle.t1_shape.specs.Shapes.{Shape}
 use Rattle.std.proofs.Common.{◌≡◌, ◌≢◌, ℕ, zero, suc, ◌+◌, ◌*◌, ◌/◌, ◌%◌, ◌<◌, ◌≤◌, ◌==◌, Bool, true, false, cond, List, [], ◌∷◌, ◌++◌, length, set, get_or, Option, Some, None, refl, ap, sym, ◌∙◌, inl, inr, subst, arith}
 use Rattle.std.proofs.lemmas.Bool.{cases_eq, cases_lt, eq-eqb, ne_eqb}
 use Rattle.std.proofs.lemmas.List.{length-set, append-nil, get_or-set_same, get_or-set_other, get_or_past}
-use Rattle.t1_shape.specs.Shapes.Shape.{T1}
 use Rattle.t1_space.specs.Places.{is_io}
 use Rattle.t1_packet.specs.declared.op.Op.{Op}
 use Rattle.t1_packet.specs.declared.packet.Packet.{Packet}
@@ -19,44 +21,43 @@ use Rattle.t1_xbar.specs.declared.admitted.Post.{Post}
 use Rattle.t1_xbar.specs.Admission.{posts_from, post_before}
 use Rattle.t1_machine.specs.Machine.{ring_of, request_pushed, requests_after, posts_pushed}
 
--- there are five destinations
-pub dest_small : (o : Op) → op_dest T1 o < 5
-dest_small o = by (is_io (op_addr o))
-  where
-    by : (b : Bool) → cond b 4 (op_addr o / 64 % 4) < 5
-    by true = omega arith
-    by false = omega arith
+-- a destination is below nine, and one of the chip
+pub dest_small : (chip : Shape) (o : Op) → op_dest chip o < 9
+dest_small chip o = dest_below chip (op_addr o)
+
+pub dest_inside : (chip : Shape) (o : Op) → op_dest chip o < destinations chip
+dest_inside chip o = dest_in chip (op_addr o)
 
 -- ---- request rings
 
-pub ring_here : (n : ℕ) (requests : List (List RequestData)) (c d : ℕ) (v : List RequestData) → length requests ≡ 5 * n → c < n → d < 5 → ring_of (set requests (5 * c + d) v) c d ≡ v
-ring_here n requests c d v len lc ld = get_or-set_same requests (5 * c + d) v [] (omega (arith, len, lc, ld))
+pub ring_here : (n : ℕ) (requests : List (List RequestData)) (c d : ℕ) (v : List RequestData) → length requests ≡ 9 * n → c < n → d < 9 → ring_of (set requests (9 * c + d) v) c d ≡ v
+ring_here n requests c d v len lc ld = get_or-set_same requests (9 * c + d) v [] (omega (arith, len, lc, ld))
 
-pub ring_other : (requests : List (List RequestData)) (c d : ℕ) (v : List RequestData) (k e : ℕ) → d < 5 → e < 5 → ((k ≡ c) × (e ≡ d) → ⊥) → ring_of (set requests (5 * c + d) v) k e ≡ ring_of requests k e
-ring_other requests c d v k e ld le ne = get_or-set_other requests (5 * c + d) (5 * k + e) v [] (λ q. ne (omega (arith, q, ld, le), omega (arith, q, ld, le)))
+pub ring_other : (requests : List (List RequestData)) (c d : ℕ) (v : List RequestData) (k e : ℕ) → d < 9 → e < 9 → ((k ≡ c) × (e ≡ d) → ⊥) → ring_of (set requests (9 * c + d) v) k e ≡ ring_of requests k e
+ring_other requests c d v k e ld le ne = get_or-set_other requests (9 * c + d) (9 * k + e) v [] (λ q. ne (omega (arith, q, ld, le), omega (arith, q, ld, le)))
 
 -- a ring that holds a request is one of a core that there is
-pub asker_within : (n : ℕ) (requests : List (List RequestData)) (c d : ℕ) (r : RequestData) (rest : List RequestData) → length requests ≡ 5 * n → ring_of requests c d ≡ r ∷ rest → c < n
+pub asker_within : (n : ℕ) (requests : List (List RequestData)) (c d : ℕ) (r : RequestData) (rest : List RequestData) → length requests ≡ 9 * n → ring_of requests c d ≡ r ∷ rest → c < n
 asker_within n requests c d r rest len e =
-    elim (cases_lt (5 * c + d) (length requests)) [
+    elim (cases_lt (9 * c + d) (length requests)) [
       | inl l ↦ omega (arith, l, len)
-      | inr l ↦ (let none : ring_of requests c d ≡ [] = get_or_past requests (5 * c + d) [] (omega (arith, l)) in let clash : ◌≡◌ {A = List RequestData} [] (r ∷ rest) = sym none ∙ e in cc)
+      | inr l ↦ (let none : ring_of requests c d ≡ [] = get_or_past requests (9 * c + d) [] (omega (arith, l)) in let clash : ◌≡◌ {A = List RequestData} [] (r ∷ rest) = sym none ∙ e in cc)
     ]
 
 -- what a core sent is pushed into its rings, and into no other
-abbrev pub IsPushed : List (List RequestData) → List (List RequestData) → ℕ → List RequestData → Type 0
-IsPushed before after c new = (i e : ℕ) → e < 5 → ring_of after i e ≡ ring_of before i e ++ cond (i == c) (sent_to T1 e new) []
+abbrev pub IsPushed : (chip : Shape) → List (List RequestData) → List (List RequestData) → ℕ → List RequestData → Type 0
+IsPushed chip before after c new = (i e : ℕ) → e < 9 → ring_of after i e ≡ ring_of before i e ++ cond (i == c) (sent_to chip e new) []
 
-none_new : (t : Bool) (e : ℕ) → ◌≡◌ {A = List RequestData} (cond t (sent_to T1 e []) []) []
-none_new true e = refl
-none_new false e = refl
+none_new : (chip : Shape) (t : Bool) (e : ℕ) → ◌≡◌ {A = List RequestData} (cond t (sent_to chip e []) []) []
+none_new chip true e = refl
+none_new chip false e = refl
 
-pub none_pushed : (requests : List (List RequestData)) (c : ℕ) → IsPushed requests requests c []
-none_pushed requests c i e le = sym (ap (λ (rs : List RequestData). ring_of requests i e ++ rs) (none_new (i == c) e) ∙ append-nil (ring_of requests i e))
+pub none_pushed : (chip : Shape) (requests : List (List RequestData)) (c : ℕ) → IsPushed chip requests requests c []
+none_pushed chip requests c i e le = sym (ap (λ (rs : List RequestData). ring_of requests i e ++ rs) (none_new chip (i == c) e) ∙ append-nil (ring_of requests i e))
 
-pub one_pushed : (n : ℕ) (requests : List (List RequestData)) (c d : ℕ) (r : RequestData) → length requests ≡ 5 * n → c < n → op_dest T1 r.op ≡ d → IsPushed requests (request_pushed requests c d r) c (r ∷ [])
-one_pushed n requests c d r len lc goes i e le =
-    let ld : d < 5 = subst (λ (k : ℕ). k < 5) goes (dest_small r.op) in
+pub one_pushed : (chip : Shape) (n : ℕ) (requests : List (List RequestData)) (c d : ℕ) (r : RequestData) → length requests ≡ 9 * n → c < n → op_dest chip r.op ≡ d → IsPushed chip requests (request_pushed requests c d r) c (r ∷ [])
+one_pushed chip n requests c d r len lc goes i e le =
+    let ld : d < 9 = subst (λ (k : ℕ). k < 9) goes (dest_small chip r.op) in
     let v : List RequestData = ring_of requests c d ++ r ∷ [] in
     let nothing : ring_of requests i e ≡ ring_of requests i e ++ [] = sym (append-nil (ring_of requests i e)) in
     elim (cases_eq i c) [
@@ -64,41 +65,41 @@ one_pushed n requests c d r len lc goes i e le =
           let t : (i == c) ≡ true = eq-eqb i c q in
           elim (cases_eq e d) [
             | inl s ↦
-                let u : (op_dest T1 r.op == e) ≡ true = eq-eqb (op_dest T1 r.op) e (goes ∙ sym s) in
-                let now : ring_of (set requests (5 * c + d) v) i e ≡ ring_of requests i e ++ r ∷ [] =
-                ap (λ (k : ℕ). ring_of (set requests (5 * c + d) v) k e) q
-                ∙ (ap (λ (k : ℕ). ring_of (set requests (5 * c + d) v) c k) s
+                let u : (op_dest chip r.op == e) ≡ true = eq-eqb (op_dest chip r.op) e (goes ∙ sym s) in
+                let now : ring_of (set requests (9 * c + d) v) i e ≡ ring_of requests i e ++ r ∷ [] =
+                ap (λ (k : ℕ). ring_of (set requests (9 * c + d) v) k e) q
+                ∙ (ap (λ (k : ℕ). ring_of (set requests (9 * c + d) v) c k) s
                 ∙ (ring_here n requests c d v len lc ld
                 ∙ (ap (λ (k : ℕ). ring_of requests c k ++ r ∷ []) (sym s) ∙ ap (λ (k : ℕ). ring_of requests k e ++ r ∷ []) (sym q)))) in
                 now ∙ (ap (λ (b : Bool). ring_of requests i e ++ cond b (r ∷ []) []) (sym u)
-                ∙ ap (λ (b : Bool). ring_of requests i e ++ cond b (sent_to T1 e (r ∷ [])) []) (sym t))
+                ∙ ap (λ (b : Bool). ring_of requests i e ++ cond b (sent_to chip e (r ∷ [])) []) (sym t))
             | inr ns ↦
-                let u : (op_dest T1 r.op == e) ≡ false = ne_eqb (op_dest T1 r.op) e (λ z. ns (sym z ∙ goes)) in
+                let u : (op_dest chip r.op == e) ≡ false = ne_eqb (op_dest chip r.op) e (λ z. ns (sym z ∙ goes)) in
                 ring_other requests c d v i e ld le (λ z. ns z.1) ∙ (nothing
                 ∙ (ap (λ (b : Bool). ring_of requests i e ++ cond b (r ∷ []) []) (sym u)
-                ∙ ap (λ (b : Bool). ring_of requests i e ++ cond b (sent_to T1 e (r ∷ [])) []) (sym t)))
+                ∙ ap (λ (b : Bool). ring_of requests i e ++ cond b (sent_to chip e (r ∷ [])) []) (sym t)))
           ]
       | inr ne ↦
           let t : (i == c) ≡ false = ne_eqb i c ne in
-          ring_other requests c d v i e ld le (λ z. ne z.0) ∙ (nothing ∙ ap (λ (b : Bool). ring_of requests i e ++ cond b (sent_to T1 e (r ∷ [])) []) (sym t))
+          ring_other requests c d v i e ld le (λ z. ne z.0) ∙ (nothing ∙ ap (λ (b : Bool). ring_of requests i e ++ cond b (sent_to chip e (r ∷ [])) []) (sym t))
     ]
 
 -- what is sent goes to its own destination
-abbrev pub Goes : Did → Type 0
-Goes did.Moved = Unit {0}
-Goes (did.Waits wait) = Unit {0}
-Goes (did.Sent d r) = op_dest T1 r.op ≡ d
+abbrev pub Goes : (chip : Shape) → Did → Type 0
+Goes chip did.Moved = Unit {0}
+Goes chip (did.Waits wait) = Unit {0}
+Goes chip (did.Sent d r) = op_dest chip r.op ≡ d
 
 -- what an exec did, pushed
-pub did_pushed : (n : ℕ) (requests : List (List RequestData)) (c : ℕ) (x : Did) → length requests ≡ 5 * n → c < n → Goes x → IsPushed requests (requests_after requests c x) c (asked_by x)
-did_pushed n requests c did.Moved len lc g = none_pushed requests c
-did_pushed n requests c (did.Waits wait) len lc g = none_pushed requests c
-did_pushed n requests c (did.Sent d r) len lc g = one_pushed n requests c d r len lc g
+pub did_pushed : (chip : Shape) (n : ℕ) (requests : List (List RequestData)) (c : ℕ) (x : Did) → length requests ≡ 9 * n → c < n → Goes chip x → IsPushed chip requests (requests_after requests c x) c (asked_by x)
+did_pushed chip n requests c did.Moved len lc g = none_pushed chip requests c
+did_pushed chip n requests c (did.Waits wait) len lc g = none_pushed chip requests c
+did_pushed chip n requests c (did.Sent d r) len lc g = one_pushed chip n requests c d r len lc g
 
 pub length-requests_after : (requests : List (List RequestData)) (c : ℕ) (x : Did) → length (requests_after requests c x) ≡ length requests
 length-requests_after requests c did.Moved = refl
 length-requests_after requests c (did.Waits wait) = refl
-length-requests_after requests c (did.Sent d r) = length-set requests (5 * c + d) (ring_of requests c d ++ r ∷ [])
+length-requests_after requests c (did.Sent d r) = length-set requests (9 * c + d) (ring_of requests c d ++ r ∷ [])
 
 -- ---- reply rings
 

@@ -51,5 +51,5 @@ module _ (config : Config) (image : Image) (runs : IsRunnable (setup_of config i
       })
 
   -- a core's caches by the packets that came are those by the log, at each time that the core knows
-  pub lines_are : (c t : ℕ) (cache : Cache) → IsTime (p.core c).received t → l1_by w.shape c (p.core c).received t cache ≡ l1_at w.shape config.strands image.ram m.xbar.log c cache t
+  pub lines_are : (c t : ℕ) (cache : Cache) → IsTime (p.core c).received t → l1_by w.config.chip c (p.core c).received t cache ≡ l1_at w.config.chip config.strands image.ram m.xbar.log c cache t
   lines_are c t cache known = joins.caches_by w right p fit c t cache known

@@ -3,7 +3,6 @@ use Rattle.std.proofs.Common.{◌≡◌, ℕ, zero, suc, ◌+◌, ◌*◌, ◌-�
 use Rattle.std.specs.List.{slice_get}
 use Rattle.t1_num.specs.MemoryLaws.{AreBytes}
 use Rattle.t1_shape.specs.Shapes.{Shape}
-use Rattle.t1_shape.specs.Shapes.Shape.{T1}
 use Rattle.t1_packet.specs.declared.packet.Packet.{Packet}
 use Rattle.t1_packet.specs.declared.served.Served.{Served}
 use Rattle.t1_event.specs.declared.report.Config.{Config}
@@ -93,8 +92,4 @@ log_is_short w m r =
     omega (arith, room.room, room.fits, most, r.runnable.few_units)
 
 pub machines_stand : (w : Setup) (m : MachineState) → IsRunOf w m → Stands w m
-machines_stand w m r = by w.shape w.config w.image r.runnable r.bytes (kept_run w m r) (let l = log_is_short w m r in omega (arith, l))
-  where
-    by : (shape : Shape) (config : Config) (image : Image) → let w : Setup = record { shape = shape; config = config; image = image } in
-        IsRunnable w → AreBytes w.image.ram → Kept w m → length m.xbar.log ≤ 4294967295 → Stands w m
-    by T1 config image runs bytes g short = stands config image runs bytes m g short
+machines_stand w m r = stands w.config w.image r.runnable r.bytes m (kept_run w m r) (let l = log_is_short w m r in omega (arith, l))

@@ -1,8 +1,9 @@
 -- Where no slot is enabled, the machine is over.
+use Rattle.t1_shape.specs.Shapes.{Shape}
+use Rattle.t1_shape.specs.Numbers.{most_strands}
 use Rattle.std.proofs.Common.{◌≡◌, ℕ, ◌<◌, ◌≤◌, true, [], length, Option, Some, None, refl, ap, sym, ◌∙◌, subst, arith}
 use Rattle.std.specs.List.{slice_get}
 use Rattle.t1_num.specs.MemoryLaws.{AreBytes}
-use Rattle.t1_shape.specs.Shapes.Shape.{T1}
 use Rattle.t1_packet.specs.Data.{RequestData}
 use Rattle.t1_event.specs.declared.report.Config.{Config}
 use Rattle.t1_elf.specs.declared.object.Image.{Image}
@@ -52,21 +53,21 @@ module _ (config : Config) (image : Image) (runs : IsRunnable (setup_of config i
       let h : History = history_at w g.calls c in
       let room : ℕ = request_rooms m.requests c in
       let same : core ≡ h.core = g.cores c core is in
-      let here : (parts config image runs bytes m g short).core c ≡ part_of T1 h = part_here config image runs bytes m g short c core is in
+      let here : (parts config image runs bytes m g short).core c ≡ part_of config.chip h = part_here config image runs bytes m g short c core is in
       let all : HasAllRoom room = requests_have_room m.requests c (λ d ld. no_requests config image runs bytes m g short none c d lc ld) in
       let turn : (turn_of core room).did ≡ None = did_none m c (turn_of core room).core (turn_of core room).did (ap (λ (o : Option CoreState). exec_in m c o) (sym is) ∙ no_exec m none c few) in
       let turned : (turn_of h.core room).did ≡ None = subst (λ (k : CoreState). (turn_of k room).did ≡ None) same turn in
       let drains : (s : ℕ) → s < config.strands → drained_by (drain_of h.core s room).did ≡ [] = λ s ls.
       subst (λ (k : CoreState). drained_by (drain_of k s room).did ≡ []) same
       (drain_none m c (drain_of core s room).core (drain_of core s room).did
-      (ap (λ (o : Option CoreState). drain_in m c s o) (sym is) ∙ no_drain m none c s few (let l = runs.few_strands in omega (arith, l, ls)))) in
-      let sends : (s : ℕ) → (part_of T1 h).sending s ≡ [] = λ s.
+      (ap (λ (o : Option CoreState). drain_in m c s o) (sym is) ∙ no_drain m none c s few (subst (λ (k : Shape). s < most_strands k) (sym g.parts.chip) (let l = runs.few_strands in omega (arith, l, ls))))) in
+      let sends : (s : ℕ) → (part_of config.chip h).sending s ≡ [] = λ s.
       subst (λ (p : CorePart). p.sending s ≡ []) here (none_sending config image runs bytes m g short none c s lc) in
-      let empty : (s : ℕ) → s < config.strands → (part_of T1 h).waiting s ≡ [] = λ s ls.
+      let empty : (s : ℕ) → s < config.strands → (part_of config.chip h).waiting s ≡ [] = λ s ls.
       undrained_buffers_are_empty w c s room (g.calls c) runs.blocks all (drains s ls) (sends s) in
-      let out : (s : ℕ) (r : RequestData) → (part_of T1 h).standing s ≡ Out r → ⊥ = λ s r.
+      let out : (s : ℕ) (r : RequestData) → (part_of config.chip h).standing s ≡ Out r → ⊥ = λ s r.
       subst (λ (p : CorePart). p.standing s ≡ Out r → ⊥) here (not_out config image runs bytes m g short none c s r lc) in
-      let ended : (s : ℕ) → s < config.strands → HasEnded (part_of T1 h) s = λ s ls.
+      let ended : (s : ℕ) → s < config.strands → HasEnded (part_of config.chip h) s = λ s ls.
       waiting_strands_have_ended w c s room (g.calls c) runs.blocks ls all turned (out s) (empty s ls) in
       subst (λ (k : CoreState). finished_of k ≡ true) (sym same) ((finished_cores_have_ended w c (g.calls c) runs.blocks).1 ended)
 

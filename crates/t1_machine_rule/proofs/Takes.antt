@@ -3,7 +3,6 @@ use Rattle.std.proofs.Common.{◌≡◌, ℕ, ◌+◌, ◌<◌, ◌≤◌, ◌==
 use Rattle.std.specs.List.{slice_get}
 use Rattle.std.proofs.lemmas.Bool.{cases_eq, eq-eqb, ne_eqb}
 use Rattle.std.proofs.lemmas.List.{length-set, append-nil, get_or-set_same, get_or-set_other}
-use Rattle.t1_shape.specs.Shapes.Shape.{T1}
 use Rattle.t1_packet.specs.declared.packet.Packet.{Packet}
 use Rattle.t1_packet.specs.declared.served.Served.{Served}
 use Rattle.t1_packet.specs.Data.{RequestData, ReplyData}
@@ -35,10 +34,10 @@ module _ (config : Config) (image : Image) (m : MachineState) (g : Kept (setup_o
   -- the line of an access that was admitted
   admitted_short : (n : ℕ) (a : Served) → slice_get g.admitted n ≡ Some a → length a.line ≤ 32
   admitted_short n a is =
-      let d : ℕ = op_dest T1 a.request.op in
-      let at = own_in d g.admitted n a is refl in
-      served_short d (destination_start w d) (ever_served T1 g.admitted m.served d) at.0 a (g.served d (dest_small a.request.op))
-      (slice_front (served_at T1 d g.admitted) (get_or m.served d []) at.0 a at.1)
+      let d : ℕ = op_dest config.chip a.request.op in
+      let at = own_in config.chip d g.admitted n a is refl in
+      served_short config.chip d (destination_start w d) (ever_served config.chip g.admitted m.served d) at.0 a (g.served d (dest_small config.chip a.request.op))
+      (slice_front (served_at config.chip d g.admitted) (get_or m.served d []) at.0 a at.1)
 
   module _ (c : ℕ) (core : CoreState) (packet : Packet) (rest : List Packet) (is : slice_get m.cores c ≡ Some core) (head : get_or m.replies c [] ≡ packet ∷ rest) where
     abbrev next : CoreState
@@ -63,11 +62,11 @@ module _ (config : Config) (image : Image) (m : MachineState) (g : Kept (setup_o
     none_sent true rs = append-nil rs
     none_sent false rs = append-nil rs
 
-    requests_now : (i e : ℕ) → e < 5
-        → requests_of (asked_by i (ever_served T1 g.admitted m.served e)) ++ ring_of m.requests i e ≡ sent_to T1 e (history_at w calls i).sent
+    requests_now : (i e : ℕ) → e < 9
+        → requests_of (asked_by i (ever_served config.chip g.admitted m.served e)) ++ ring_of m.requests i e ≡ sent_to config.chip e (history_at w calls i).sent
     requests_now i e le =
         g.requests i e le
-        ∙ sym (sent_now w m g c core next (Take packet) is [] (λ h same. sym (append-nil h.sent)) i e ∙ none_sent (i == c) (sent_to T1 e (history_at w g.calls i).sent))
+        ∙ sym (sent_now w m g c core next (Take packet) is [] (λ h same. sym (append-nil h.sent)) i e ∙ none_sent (i == c) (sent_to config.chip e (history_at w g.calls i).sent))
 
     replies_now : (i : ℕ) → i < config.cores → (history_at w calls i).received ++ get_or (set m.replies c rest) i [] ≡ posts_from i 0 g.admitted
     replies_now i l =
@@ -104,6 +103,7 @@ module _ (config : Config) (image : Image) (m : MachineState) (g : Kept (setup_o
         tried = g.parts.tried;
         posted = g.parts.posted;
         strands = g.parts.strands;
+      chip = g.parts.chip;
       };
       calls = calls;
       admitted = g.admitted;

@@ -1,8 +1,9 @@
 -- The accesses that a machine's destinations served are lawful: few kills, and an evicted line of RAM.
+use Rattle.t1_num.specs.declared.chip.ChipKind.TheVariants.{T1, T2}
+use Rattle.t1_shape.specs.Shapes.{Shape}
 use Rattle.std.proofs.Common.{◌≡◌, ℕ, ◌*◌, ◌/◌, ◌%◌, ◌<◌, ◌≤◌, ◌==◌, nat_lt, Bool, true, false, cond, List, length, take, Option, Some, None, ap, sym, ◌∙◌, subst, inl, inr, arith}
 use Rattle.std.specs.List.{slice_get, filter}
 use Rattle.std.proofs.lemmas.Bool.{cases_lt, lt-ltb, le-ltb}
-use Rattle.t1_shape.specs.Shapes.Shape.{T1}
 use Rattle.t1_shape.specs.Numbers.{banks}
 use Rattle.t1_packet.specs.declared.served.Served.{Served}
 use Rattle.t1_packet.specs.Data.{KillData, RequestData}
@@ -34,9 +35,13 @@ refused_lawful cores ram r = record {
   evicted = λ addr e. absurd (let clash : ◌≡◌ {A = Option ℕ} None (Some addr) = e in cc);
 }
 
-bank_lawful : (b : BankState) (r : RequestData) → IsSound b → b.array.shape ≡ T1 → IsLawfulAccess b.cores b.ram (served_by b r)
+below_ram : (chip : Shape) (line n ram addr : ℕ) → line / banks chip < n → ram ≡ 64 * (banks chip * n) → addr ≡ line * 64 → addr < ram
+below_ram T1 line n ram addr l whole at = omega (arith, l, whole, at)
+below_ram T2 line n ram addr l whole at = omega (arith, l, whole, at)
+
+bank_lawful : (chip : Shape) (b : BankState) (r : RequestData) → IsSound b → b.array.shape ≡ chip → IsLawfulAccess b.cores b.ram (served_by b r)
 unfolding served_by
-bank_lawful b r s t =
+bank_lawful chip b r s t =
     let few = (sound_is_lawful b s).few in
     record {
       few = λ core. (let l = few.six r core in omega (arith, l));
@@ -48,11 +53,7 @@ bank_lawful b r s t =
     low addr e =
         let x = evicted_line b.array (op_addr r.op / 64) addr e in
         let at = x.at in
-        let four : banks b.array.shape ≡ 4 = ap banks t in
-        let below : x.line / 4 < length b.array.memory =
-        subst (λ (n : ℕ). x.line / n < length b.array.memory) four (s.array.within x.there.0 x.line x.there.1) in
-        let whole : b.ram ≡ 64 * (4 * length b.array.memory) = s.whole ∙ ap (λ (n : ℕ). 64 * (n * length b.array.memory)) four in
-        omega (arith, at, below, whole)
+        below_ram b.array.shape x.line (length b.array.memory) b.ram addr (s.array.within x.there.0 x.line x.there.1) s.whole at
 
     by : (f : Bool) (addr : ℕ) → (cond f (served_well b r) (refused r)).evicted ≡ Some addr → addr < b.ram
     by true addr e = low addr e
@@ -62,7 +63,7 @@ module _ (config : Config) (image : Image) (runs : IsRunnable (setup_of config i
   abbrev w : Setup
   w = setup_of config image
 
-  start_is : (d : ℕ) → d < 4 → IsStart T1 d config.cores config.sets image.ram
+  start_is : (d : ℕ) → d < banks config.chip → IsStart config.chip d config.cores config.sets image.ram
   start_is d l = record {
     bank_is = l;
     few = runs.few_cores;
@@ -73,26 +74,26 @@ module _ (config : Config) (image : Image) (runs : IsRunnable (setup_of config i
   }
 
   -- each access that a destination served
-  pub access_lawful : (d : ℕ) (xs : List Served) (k : ℕ) (a : Served) → AreServed T1 d (destination_start w d) xs → slice_get xs k ≡ Some a → IsLawfulAccess config.cores config.ram a
+  pub access_lawful : (d : ℕ) (xs : List Served) (k : ℕ) (a : Served) → AreServed config.chip d (destination_start w d) xs → slice_get xs k ≡ Some a → IsLawfulAccess config.cores config.ram a
   access_lawful d xs k a s e =
       let start : BankState = destination_start w d in
-      let before : BankState = after T1 d start (take k xs) in
-      let is : a ≡ serves T1 d before a.request = served_is d start xs k a s e in
+      let before : BankState = after config.chip d start (take k xs) in
+      let is : a ≡ serves config.chip d before a.request = served_is config.chip d start xs k a s e in
       subst (λ (v : Served). IsLawfulAccess config.cores config.ram v) (sym is)
-      (elim (cases_lt d 4) [
+      (elim (cases_lt d (banks config.chip)) [
         | inl l ↦
-            let t : nat_lt d 4 ≡ true = lt-ltb d 4 l in
+            let t : nat_lt d (banks config.chip) ≡ true = lt-ltb d (banks config.chip) l in
             let rs : List RequestData = requests_of (take k xs) in
-            let x = started T1 d config.cores config.sets image.ram rs (start_is d l) in
+            let x = started config.chip d config.cores config.sets image.ram rs (start_is d l) in
             let b : BankState = bank_after start rs in
-            let law : IsLawfulAccess b.cores b.ram (served_by b a.request) = bank_lawful b a.request x.sound x.alike.shape in
+            let law : IsLawfulAccess b.cores b.ram (served_by b a.request) = bank_lawful config.chip b a.request x.sound x.alike.shape in
             let cores : IsLawfulAccess config.cores b.ram (served_by b a.request) = subst (λ (n : ℕ). IsLawfulAccess n b.ram (served_by b a.request)) x.alike.cores law in
             let ram : IsLawfulAccess config.cores config.ram (served_by b a.request) = subst (λ (n : ℕ). IsLawfulAccess config.cores n (served_by b a.request)) (x.alike.ram ∙ runs.image) cores in
-            let same : served_by b a.request ≡ serves T1 d before a.request =
-            ap (λ (c : BankState). served_by c a.request) (sym (after_is d start (take k xs) l))
+            let same : served_by b a.request ≡ serves config.chip d before a.request =
+            ap (λ (c : BankState). served_by c a.request) (sym (after_is config.chip d start (take k xs) l))
             ∙ sym (ap (λ (v : Bool). cond v (served_by before a.request) (refused a.request)) t) in
             subst (λ (v : Served). IsLawfulAccess config.cores config.ram v) same ram
         | inr l ↦
-            let f : nat_lt d 4 ≡ false = le-ltb d 4 l in
+            let f : nat_lt d (banks config.chip) ≡ false = le-ltb d (banks config.chip) l in
             subst (λ (v : Served). IsLawfulAccess config.cores config.ram v) (sym (ap (λ (v : Bool). cond v (served_by before a.request) (refused a.request)) f)) (refused_lawful config.cores config.ram a.request)
       ])

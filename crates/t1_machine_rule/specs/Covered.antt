@@ -3,7 +3,6 @@
 use Rattle.std.specs.Prelude.{ℕ, ◌≡◌, ◌/◌, ◌<◌, List, [], ◌++◌, length, get_or, Option, Some, None}
 use Rattle.std.specs.List.{slice_get}
 use Rattle.t1_shape.specs.Shapes.{Shape}
-use Rattle.t1_shape.specs.Shapes.Shape.{T1}
 use Rattle.t1_shape.specs.Slots.{Line, slots_in, tags_of}
 use Rattle.t1_packet.specs.declared.cache.Cache.{Cache}
 use Rattle.t1_packet.specs.declared.cache.Cache.TheVariants.{Dcache, Icache}
@@ -32,7 +31,7 @@ in_flight m core dest = get_or m.replies core [] ++ posts_from core (length m.xb
 
 -- the tags of a core's cache once these came
 abbrev pub tags_with : MachineState → ℕ → CoreState → Cache → ℕ → List (Option ℕ)
-tags_with m c core cache dest = tags_of (slots_after T1 c cache (slots_of cache core) (in_flight m c dest))
+tags_with m c core cache dest = tags_of (slots_after m.chip c cache (slots_of cache core) (in_flight m c dest))
 
 -- what a bank's directory shows of a core's cache
 abbrev pub shown_by : MachineState → ℕ → ℕ → Cache → List (Option ℕ)
@@ -42,5 +41,5 @@ shown_by m bank core cache = tags_at (bank_of m.banks bank).directory core cache
 -- one that this bank's directory shows
 abbrev pub IsCoveredState : MachineState → Type 0
 IsCoveredState m =
-    (c slot : ℕ) (cache : Cache) (core : CoreState) → slice_get m.cores c ≡ Some core → slot < slots_in (layout T1 cache)
-    → get_or (tags_with m c core cache (bank_of_slot T1 cache slot)) slot None ≡ get_or (shown_by m (bank_of_slot T1 cache slot) c cache) slot None
+    (c slot : ℕ) (cache : Cache) (core : CoreState) → slice_get m.cores c ≡ Some core → slot < slots_in (layout m.chip cache)
+    → get_or (tags_with m c core cache (bank_of_slot m.chip cache slot)) slot None ≡ get_or (shown_by m (bank_of_slot m.chip cache slot) c cache) slot None

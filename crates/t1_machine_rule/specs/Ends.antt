@@ -1,8 +1,6 @@
 -- A machine in which no slot is enabled, and what it reports.
 use Rattle.std.specs.Prelude.{ℕ, ◌≡◌, ◌<◌, ◌≤◌, true, false, List, [], length, get_or, Some}
 use Rattle.std.specs.List.{slice_get}
-use Rattle.t1_shape.specs.Shapes.Shape.{T1}
-use Rattle.t1_shape.specs.Numbers.{destinations}
 use Rattle.t1_event.specs.declared.report.Place.{Place}
 use Rattle.t1_event.specs.declared.report.Report.{Report}
 use Rattle.t1_event.specs.Items.{items_of}
@@ -16,18 +14,18 @@ use Rattle.t1_iob.specs.Console.{console_of}
 use Rattle.t1_core.specs.Steps.{CoreState}
 use Rattle.t1_core.specs.Ends.{finished_of}
 use Rattle.t1_machine.specs.Slots.{slots, slot_at}
-use Rattle.t1_machine.specs.Machine.{MachineState, ring_of, is_enabled}
+use Rattle.t1_machine.specs.Machine.{most_dests, MachineState, ring_of, is_enabled}
 use Rattle.t1_machine.specs.Start.{most_commits}
 use Rattle.t1_machine_rule.specs.Parts.{traces_in}
 
 abbrev pub NoneEnabled : MachineState → Type 0
-NoneEnabled m = (n : ℕ) → n < slots T1 → is_enabled m (slot_at T1 n) ≡ false
+NoneEnabled m = (n : ℕ) → n < slots m.chip → is_enabled m (slot_at m.chip n) ≡ false
 
 -- every strand has ended, every buffer is empty, and every ring
 pub record IsOver (w : Setup) (m : MachineState) : Type 0 where
   pub cores : (c : ℕ) (core : CoreState) → slice_get m.cores c ≡ Some core → finished_of core ≡ true
-  pub requests : (c d : ℕ) → c < w.config.cores → d < destinations T1 → ring_of m.requests c d ≡ []
-  pub served : (d : ℕ) → d < destinations T1 → get_or m.served d [] ≡ []
+  pub requests : (c d : ℕ) → c < w.config.cores → d < most_dests → ring_of m.requests c d ≡ []
+  pub served : (d : ℕ) → d < most_dests → get_or m.served d [] ≡ []
   pub replies : (c : ℕ) → c < w.config.cores → get_or m.replies c [] ≡ []
 
 -- ---- its traces and log

@@ -34,13 +34,13 @@ core_part shape h (Some core) = part_of shape (record { core = core; received = 
 -- the parts of a machine, by the calls of each core and the accesses that were admitted
 abbrev pub parts_of : Setup → MachineState → (ℕ → List Call) → List Served → Parts
 parts_of w m calls admitted = record {
-  core = λ c. core_part w.shape (history_at w calls c) (slice_get m.cores c);
+  core = λ c. core_part w.config.chip (history_at w calls c) (slice_get m.cores c);
   destination = λ d. record {
-    received = λ c. requests_of (asked_by c (ever_served w.shape admitted m.served d));
-    served = ever_served w.shape admitted m.served d;
+    received = λ c. requests_of (asked_by c (ever_served w.config.chip admitted m.served d));
+    served = ever_served w.config.chip admitted m.served d;
   };
   crossbar = record {
-    received = λ d. served_at w.shape d admitted;
+    received = λ d. served_at w.config.chip d admitted;
     admitted = admitted;
     log = m.xbar.log;
     posted = λ c. posts_from c 0 admitted;

@@ -26,6 +26,6 @@ pub record HoldsSoFar (w : Setup) (traces : List Trace) (log : List Commit) : Ty
   -- each commit is the record of what its destination serves, and fills the right way
   pub record_is : (n : ℕ) (commit : Commit) (x : Act (items_of traces)) → slice_get log n ≡ Some commit → Names commit n x → IsAccess x.item.kind
       → IsRecordOf (run_of w traces log) commit x.item
-  pub bank : (n : ℕ) (commit : Commit) → slice_get log n ≡ Some commit → commit.dest < banks w.shape → IsBankCommit (run_of w traces log) n commit
-  pub bridge : (n : ℕ) (commit : Commit) → slice_get log n ≡ Some commit → commit.dest ≡ io_bridge w.shape → IsBridgeCommit commit
+  pub bank : (n : ℕ) (commit : Commit) → slice_get log n ≡ Some commit → commit.dest < banks w.config.chip → IsBankCommit (run_of w traces log) n commit
+  pub bridge : (n : ℕ) (commit : Commit) → slice_get log n ≡ Some commit → commit.dest ≡ io_bridge w.config.chip → IsBridgeCommit commit
   pub filled : (n : ℕ) (commit : Commit) → slice_get log n ≡ Some commit → IsFilledRightly (run_of w traces log) n commit

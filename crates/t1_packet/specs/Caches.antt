@@ -2,7 +2,7 @@
 -- (OpenSPARC T1 Microarchitecture Specification, chapters 2 to 4).
 use Rattle.std.specs.Prelude.{ℕ, ◌+◌, ◌*◌, ◌/◌, ◌%◌, ◌==◌, ◌&&◌, nat_lt, Bool, true, false, if◌then◌else◌, List, [], ◌∷◌, set, take, Option, Some, None}
 use Rattle.t1_shape.specs.Shapes.{Shape}
-use Rattle.t1_shape.specs.Shapes.Shape.{T1}
+use Rattle.t1_num.specs.declared.chip.ChipKind.TheVariants.{T1, T2}
 use Rattle.t1_shape.specs.Numbers.{banks}
 use Rattle.t1_shape.specs.Slots.{Layout, Line, slot_of, tags_of, with_bytes_at, with_fill, pointers_with_fill}
 use Rattle.t1_packet.specs.declared.cache.Cache.{Cache}
@@ -14,6 +14,8 @@ use Rattle.t1_packet.specs.Data.{KillData}
 abbrev pub layout : Shape → Cache → Layout
 layout T1 Dcache = record { ways = 4; sets = 128 }
 layout T1 Icache = record { ways = 4; sets = 128 }
+layout T2 Dcache = record { ways = 4; sets = 128 }
+layout T2 Icache = record { ways = 8; sets = 64 }
 
 -- the bytes of a line
 abbrev pub width : Cache → ℕ

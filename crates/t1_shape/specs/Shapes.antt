@@ -1,4 +1,5 @@
 -- The chips that are built.
+use Rattle.t1_num.specs.declared.chip.ChipKind.{ChipKind}
 
-pub data Shape : Type 0 where
-  T1 : Shape
+abbrev pub Shape : Type 0
+Shape = ChipKind

@@ -5,3 +5,7 @@
 //! line is found in, which way a fill takes, and what the pointers of the sets do. `proofs/Numbers`
 //! has the few facts that proofs use of a chip's numbers, one clause a chip.
 #![tactic(auto)]
+
+mod counts;
+
+pub use counts::{banks, destinations, l2_ways, most_l2_sets, most_strands};

@@ -1,6 +1,6 @@
 -- The examples are allowed.
 use Rattle.std.proofs.Common.{ℕ, ◌≡◌, Bool, false, [], ◌∷◌, refl, sym, subst, inl, inr, arith}
-use Rattle.t1_shape.specs.Shapes.Shape.{T1}
+use Rattle.t1_num.specs.declared.chip.ChipKind.TheVariants.{T1, T2}
 use Rattle.t1_event.specs.declared.item.Item.{Item}
 use Rattle.t1_event.specs.Items.{fetch_item, store_item}
 use Rattle.t1_joint.specs.Lists.{IsIn}

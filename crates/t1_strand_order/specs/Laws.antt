@@ -1,7 +1,7 @@
 -- The laws of a strand's order.
 use Rattle.std.specs.Prelude.{ℕ, ◌≡◌, ◌<◌, not, ◌==◌, Bool, List}
 use Rattle.t1_shape.specs.Shapes.{Shape}
-use Rattle.t1_shape.specs.Shapes.Shape.{T1}
+use Rattle.t1_num.specs.declared.chip.ChipKind.TheVariants.{T1, T2}
 use Rattle.t1_packet.specs.Ops.{dest_of}
 use Rattle.t1_event.specs.declared.item.Item.{Item}
 use Rattle.t1_event.specs.declared.item.ItemKind.TheVariants as kind

@@ -129,13 +129,13 @@ module _ (w : Setup) (traces : List Trace) (log : List Commit) (j : IsJointHisto
 
   -- where a commit's access lies, and which destination served it
   served_where : (n : ℕ) (c : Commit) → slice_get log n ≡ Some c
-      → ((op_addr c.op < length w.image.ram) × (c.dest < banks w.shape)) ⊎ (IsIo (op_addr c.op) × (c.dest ≡ io_bridge w.shape))
+      → ((op_addr c.op < length w.image.ram) × (c.dest < banks w.config.chip)) ⊎ (IsIo (op_addr c.op) × (c.dest ≡ io_bridge w.config.chip))
   served_where n c is =
       let nx = j.naming.names n c is in
       let r = j.banks.record_is n c nx.0 is nx.2 in
       let s = shaped nx.0 nx.1 in
       let addr : op_addr c.op ≡ nx.0.item.addr = ap op_addr r.op ∙ op_addr_of nx.0.item c.way nx.0.item.kind nx.1 in
-      elim (lies_at w.shape (length w.image.ram) nx.0.item nx.0.item.kind small s.size nx.1 s.lies) [
+      elim (lies_at w.config.chip (length w.image.ram) nx.0.item nx.0.item.kind small s.size nx.1 s.lies) [
         | inl p ↦ inl (omega (arith, addr, p.0), omega (arith, r.dest, p.1))
         | inr p ↦ inr (subst IsIo (sym addr) p.0, r.dest ∙ p.1)
       ]
@@ -148,30 +148,30 @@ module _ (w : Setup) (traces : List Trace) (log : List Commit) (j : IsJointHisto
       ]
 
   kills_are : (n : ℕ) (c : Commit) → slice_get log n ≡ Some c
-      → c.kills ≡ kills_below w.shape (shown_at (run_of w traces log) n) (core_of w.config.strands c) c.evicted c.op w.config.cores
+      → c.kills ≡ kills_below w.config.chip (shown_at (run_of w traces log) n) (core_of w.config.strands c) c.evicted c.op w.config.cores
   kills_are n c is =
       elim (served_where n c is) [
         | inl p ↦ (j.banks.bank n c is p.1).kills
         | inr p ↦
             let b = j.banks.bridge n c is p.1 in
             let blocks : length w.image.ram % 65536 ≡ 0 = subst (λ (n : ℕ). n % 65536 ≡ 0) (sym j.setup.ram) j.setup.blocks in
-            let none : kills_below w.shape (shown_at (run_of w traces log) n) (core_of w.config.strands c) None c.op w.config.cores ≡ [] =
-            none_killed w.shape (length w.image.ram) (shown_at (run_of w traces log) n) (core_of w.config.strands c) c.op w.config.cores
-            (λ core cache. directory_in_ram w.shape (length w.image.ram) w.config.strands log only_ram_fills core cache n) blocks (omega (arith, small, p.0.0)) in
-            b.kills ∙ sym (ap (λ (e : Option ℕ). kills_below w.shape (shown_at (run_of w traces log) n) (core_of w.config.strands c) e c.op w.config.cores) b.evicted ∙ none)
+            let none : kills_below w.config.chip (shown_at (run_of w traces log) n) (core_of w.config.strands c) None c.op w.config.cores ≡ [] =
+            none_killed w.config.chip (length w.image.ram) (shown_at (run_of w traces log) n) (core_of w.config.strands c) c.op w.config.cores
+            (λ core cache. directory_in_ram w.config.chip (length w.image.ram) w.config.strands log only_ram_fills core cache n) blocks (omega (arith, small, p.0.0)) in
+            b.kills ∙ sym (ap (λ (e : Option ℕ). kills_below w.config.chip (shown_at (run_of w traces log) n) (core_of w.config.strands c) e c.op w.config.cores) b.evicted ∙ none)
       ]
 
   fill_is : (n : ℕ) (c : Commit) (cache : Cache) (line way : ℕ) → slice_get log n ≡ Some c → filled_line cache c.op ≡ Some line → c.way ≡ Some way
-      → FillsAt (layout w.shape cache) (slot_of (layout w.shape cache) (shown_at (run_of w traces log) n (core_of w.config.strands c) cache) line) line way
+      → FillsAt (layout w.config.chip cache) (slot_of (layout w.config.chip cache) (shown_at (run_of w traces log) n (core_of w.config.strands c) cache) line) line way
   fill_is n c cache line way is il iw =
       elim (served_where n c is) [
         | inl p ↦
             let f = (j.banks.bank n c is p.1).fills cache line il in
             let same : f.0 ≡ way = let e : Some f.0 ≡ Some way = sym f.1 ∙ iw in cc in
-            fills_at w.shape cache (shown_at (run_of w traces log) n (core_of w.config.strands c) cache) line
-            (victim_at w.shape w.config.strands w.image.ram log (core_of w.config.strands c) cache c.seen line) way
+            fills_at w.config.chip cache (shown_at (run_of w traces log) n (core_of w.config.strands c) cache) line
+            (victim_at w.config.chip w.config.strands w.image.ram log (core_of w.config.strands c) cache c.seen line) way
             (j.places.filled n c is cache line way il iw) (omega (arith, f.2, same))
-            (slot_of (layout w.shape cache) (shown_at (run_of w traces log) n (core_of w.config.strands c) cache) line) refl
+            (slot_of (layout w.config.chip cache) (shown_at (run_of w traces log) n (core_of w.config.strands c) cache) line) refl
         | inr p ↦ let clash : ◌≡◌ {A = Option ℕ} None (Some way) = sym (j.banks.bridge n c is p.1).way ∙ iw in cc
       ]
 

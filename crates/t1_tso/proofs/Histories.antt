@@ -13,7 +13,7 @@ log_is_covered w traces log j =
     let r : Run = run_of w traces log in
     let k = joint w traces log j in
     let few = few_kills r k in
-    (record { tags = λ core cache n below within. covered w.shape w.image.ram w.config.strands log few core cache n }, λ core cache t slot line below within e. lines_hold r k few core cache t below slot line e)
+    (record { tags = λ core cache n below within. covered w.config.chip w.image.ram w.config.strands log few core cache n }, λ core cache t slot line below within e. lines_hold r k few core cache t below slot line e)
 
 pub history_obeys_tso : JointHistoriesObeyTso
 history_obeys_tso w traces log order j o =

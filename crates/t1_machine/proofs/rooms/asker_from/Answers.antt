@@ -5,5 +5,5 @@ use Rattle.t1_machine.proofs.rooms.asker_from.Goals as goal
 
 pub loop-preserved : goal.loop-preserved
 loop-preserved c =
-    let none : is_empty (get_or c.args.requests.now (5 * c.loop.core + c.args.dest) []) ≡ true = search rules in
+    let none : is_empty (get_or c.args.requests.now (9 * c.loop.core + c.args.dest) []) ≡ true = search rules in
     (c.core_after-core.ensures.within, rw c.core_after-core.ensures.value (asker_skip c.args.requests.now c.args.cores c.args.dest c.loop.core c.loop.counter c.loop-test.true none ∙ c.loop.invariant.1))

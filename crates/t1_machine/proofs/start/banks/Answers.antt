@@ -1,5 +1,4 @@
 use Rattle.std.proofs.Common.{◌≡◌, ◌∙◌, ◌+◌, ◌-◌, ◌++◌, ◌∷◌, [], ℕ, List, ap}
-use Rattle.t1_shape.specs.Shapes.Shape.{T1}
 use Rattle.t1_event.specs.BankRule.{BankState, bank_start}
 use Rattle.t1_joint.specs.Start.{Setup}
 use Rattle.t1_joint.specs.Fit.{destination_start}
@@ -13,6 +12,6 @@ loop-bank-preserved c =
     let bank : ℕ = c.loop-bank.bank in
     let made : List BankState = c.loop-bank.all.items in
     let is : c.in_ok-new.field-0 ≡ destination_start w bank =
-    c.in_ok-new.ensures ∙ ap (λ (ram : List ℕ). bank_start T1 bank c.args.config.now.cores c.args.config.now.sets ram) c.as_slice.ensures in
+    c.in_ok-new.ensures ∙ ap (λ (ram : List ℕ). bank_start c.args.config.now.chip bank c.args.config.now.cores c.args.config.now.sets ram) c.as_slice.ensures in
     let all : c.push.new.self.items ≡ made ++ destination_start w bank ∷ [] = c.in_ok-push.ensures.items ∙ ap (λ (b : BankState). made ++ b ∷ []) is in
-    ap (λ (banks : List BankState). banks ++ banks_from w (bank + 1) (4 - (bank + 1))) all ∙ (one_bank_more w bank 4 made c.loop-bank-test.true ∙ c.loop-bank.invariant)
+    ap (λ (banks : List BankState). banks ++ banks_from w (bank + 1) (c.banks-count.result - (bank + 1))) all ∙ (one_bank_more w bank c.banks-count.result made c.loop-bank-test.true ∙ c.loop-bank.invariant)

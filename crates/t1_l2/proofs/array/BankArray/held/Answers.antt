@@ -1,6 +1,5 @@
 use Rattle.std.proofs.Common.{◌≡◌, ◌∙◌, ◌*◌, ◌<◌, ℕ, List, [], Option, None, get_or, ap, sym, subst, arith}
 use Rattle.std.proofs.lemmas.List.{get_or_read}
-use Rattle.t1_shape.specs.Shapes.Shape.{T1}
 use Rattle.t1_shape.specs.Numbers.{l2_ways}
 use Rattle.t1_l2.specs.Array.{ArrayState, line_at}
 use Rattle.t1_l2.proofs.View.{held_view}
@@ -11,8 +10,8 @@ returns-in-Some-clause-value c =
     let i = c.self.inside in
     let tags : i.tags.items ≡ c.args.self.now.tags = ap (λ (a : ArrayState). a.tags) c.self.view_is in
     let at = c.in-Some.ensures.at in
-    let low : c.in-Some.slot < l2_ways T1 * i.sets = subst (λ (a : ArrayState). c.in-Some.slot < l2_ways a.shape * a.sets) (sym c.self.view_is) at.1 in
+    let low : c.in-Some.slot < l2_ways i.chip * i.sets = subst (λ (a : ArrayState). c.in-Some.slot < l2_ways a.shape * a.sets) (sym c.self.view_is) at.1 in
     get_or_read i.lines.items c.in-Some.slot c.index.result.now (let f = c.self.invariant.full in omega (arith, low, f)) c.index.ensures []
-    ∙ (held_view T1 i.bank i.sets i.tags.items i.pointers.items i.lines.items i.ram.items c.self.invariant.l2 c.self.invariant.full c.in-Some.slot c.args.addr low
+    ∙ (held_view i.chip i.bank i.sets i.tags.items i.pointers.items i.lines.items i.ram.items c.self.invariant.l2 c.self.invariant.full c.in-Some.slot c.args.addr low
     (ap (λ (ts : List (Option ℕ)). get_or ts c.in-Some.slot None) tags ∙ at.0)
     ∙ ap (λ (a : ArrayState). line_at a c.args.addr) c.self.view_is)

@@ -9,6 +9,7 @@ use Rattle.t1_machine.proofs.machine.Machine.admit.Goals as goal
 pub admit-requires : goal.admit-requires
 admit-requires c =
     let v : MachineState = record {
+      chip = c.self.inside.chip;
       cores = c.self.inside.cores.items;
       requests = c.self.inside.requests.items;
       served = c.self.inside.served.items;
@@ -18,7 +19,7 @@ admit-requires c =
       xbar = c.self.inside.xbar;
     } in
     let spare : HasSpare v = subst (λ (m : MachineState). HasSpare m) (sym c.self.view_is) c.requires.spare in
-    let five : length v.served ≡ 5 = c.self.invariant.0.all_served in
+    let five : length v.served ≡ 9 = c.self.invariant.0.all_served in
     let read = get_or_read v.served _ _ (omega (arith, five, c.requires.dest)) c.index-ring.ensures [] in
     record { spare = spare c.args.number c.in-Some.served.now (drop 1 c.index-ring.result.now) (sym read ∙ c.in-Some.ensures.some) }
 
