@@ -15,8 +15,6 @@ pub mod commit;
 pub mod item;
 pub mod laws;
 pub mod report;
-#[cfg(test)]
-mod tests;
 pub mod trace;
 
 pub use commit::Commit;
