@@ -16,8 +16,6 @@ pub mod destination;
 pub mod item;
 pub mod laws;
 pub mod report;
-#[cfg(test)]
-mod tests;
 pub mod trace;
 
 pub use commit::Commit;

@@ -13,5 +13,3 @@
 #![tactic(auto)]
 
 pub mod laws;
-#[cfg(test)]
-mod tests;
