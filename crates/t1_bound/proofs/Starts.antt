@@ -1,5 +1,5 @@
 -- What a machine weighs at its start.
-use Rattle.std.proofs.Common.{◌≡◌, ◌≤◌, ◌+◌, ◌-◌, ◌*◌, ℕ, zero, suc, List, refl, ap, ◌∙◌, arith}
+use Rattle.std.proofs.Common.{◌≡◌, ◌≤◌, ◌+◌, ◌-◌, ◌*◌, ℕ, zero, suc, Bool, List, refl, ap, ◌∙◌, arith}
 use Rattle.std.specs.List.{All}
 use Rattle.std.proofs.lemmas.List.Elements.{All-nil, All-cons}
 use Rattle.t1_packet.specs.declared.packet.Packet.{Packet}
@@ -19,9 +19,9 @@ use Rattle.t1_bound.proofs.Units.{reg_units}
 
 -- ---- one strand
 
-no_units : (number count entry : ℕ) → (start_of number count entry).units ≡ 0
+no_units : (number count entry : ℕ) (hyper : Bool) → (start_of number count entry hyper).units ≡ 0
 unfolding start_of blank_of
-no_units number count entry = reg_units (with_reg (blank_of entry) 8 number) 9 count ∙ reg_units (blank_of entry) 8 number
+no_units number count entry hyper = reg_units (with_reg (blank_of entry hyper) 8 number) 9 count ∙ reg_units (blank_of entry hyper) 8 number
 
 all_units : (a b : ℕ) → 1 ≤ b → a + a * (b - (0 + 1)) ≡ a * b
 all_units a b h =
@@ -44,13 +44,13 @@ pub record BeginWith (w : Weights) (config : Config) (ts : List ThreadState) (n 
 first_weighs : (w : Weights) (config : Config) (entry number : ℕ) → 1 ≤ config.budget
     → thread_weight w (first_thread (start_in config entry number) config.budget) ≡ w.fetch * config.budget
 first_weighs w config entry number some =
-    let none = no_units number (config.cores * config.strands) entry in
+    let none = no_units number (config.cores * config.strands) entry config.hyper in
     let k = all_units w.fetch config.budget some in
     rw none (omega (arith, k))
 
 first_live : (config : Config) (entry number : ℕ) → 1 ≤ config.budget → IsLive (first_thread (start_in config entry number) config.budget)
 first_live config entry number some =
-    let none = no_units number (config.cores * config.strands) entry in
+    let none = no_units number (config.cores * config.strands) entry config.hyper in
     omega (arith, none, some)
 
 threads_begin : (w : Weights) (config : Config) (entry number n : ℕ) → 1 ≤ config.budget → BeginWith w config (threads_from config entry number n) n
@@ -59,7 +59,7 @@ threads_begin w config entry number zero some = record { weight = omega arith; t
 threads_begin w config entry number (suc n) some =
     let rest = threads_begin w config entry (number + 1) n some in
     let first = first_weighs w config entry number some in
-    let none = no_units number (config.cores * config.strands) entry in
+    let none = no_units number (config.cores * config.strands) entry config.hyper in
     let a = times_suc (w.fetch * config.budget) n in
     let b = times_suc w.fetch n in
     record {

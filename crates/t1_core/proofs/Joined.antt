@@ -1,5 +1,5 @@
 -- The laws of a core from their parts.
-use Rattle.std.proofs.Common.{◌≡◌, ◌+◌, ◌*◌, ◌<◌, ◌≤◌, ◌==◌, ℕ, zero, suc, true, false, List, [], ◌∷◌, Option, Some, None, refl, ap, sym, ◌∙◌, subst, arith, slice_index}
+use Rattle.std.proofs.Common.{◌≡◌, ◌+◌, ◌*◌, ◌<◌, ◌≤◌, ◌==◌, ℕ, zero, suc, Bool, true, false, List, [], ◌∷◌, Option, Some, None, refl, ap, sym, ◌∙◌, subst, arith, slice_index}
 use Rattle.std.specs.List.{slice_get}
 use Rattle.std.proofs.lemmas.Bool.{ne_eqb}
 use Rattle.t1_packet.specs.declared.cache.Cache.TheVariants.{Dcache, Icache}
@@ -37,15 +37,15 @@ thread_from config entry number (suc n) (suc i) t e =
     let k : number + 1 + i ≡ number + suc i = omega arith in
     thread_from config entry (number + 1) n i t e ∙ ap (λ (m : ℕ). first_thread (start_in config entry m) config.budget) k
 
-no_units : (number count entry : ℕ) → (start_of number count entry).units ≡ 0
+no_units : (number count entry : ℕ) (hyper : Bool) → (start_of number count entry hyper).units ≡ 0
 unfolding start_of with_reg blank_of
-no_units number count entry = refl
+no_units number count entry hyper = refl
 
 starts_between : (ram budget : ℕ) (config : Config) (entry number : ℕ) → 1 ≤ budget
     → Replays ram (start_in config entry number) (first_thread (start_in config entry number) budget)
 unfolding reads_of
 starts_between ram budget config entry number some =
-    let units : (start_in config entry number).units ≡ 0 = no_units number (config.cores * config.strands) entry in
+    let units : (start_in config entry number).units ≡ 0 = no_units number (config.cores * config.strands) entry config.hyper in
     record {
       stands = record { count = 0; is = refl };
       unspent = ne_eqb (start_in config entry number).units budget (λ e. omega (arith, some, units, e));

@@ -29,7 +29,7 @@ standing_of core strand ram s item (phase.Ended ending) = Ended ending
 
 -- of a strand that is not there nothing is told
 abbrev pub state_at : Option ThreadState → Strand
-state_at None = start_of 0 1 0
+state_at None = start_of 0 1 0 false
 state_at (Some t) = t.strand
 
 abbrev pub standing_at : ℕ → ℕ → ℕ → Option ThreadState → Standing

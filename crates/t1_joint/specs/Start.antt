@@ -8,7 +8,7 @@ use Rattle.t1_joint.specs.Replay.{Bounds}
 
 -- the start state of a strand, which is numbered over all cores, at this entry
 abbrev pub start_in : Config → ℕ → ℕ → Strand
-start_in config entry number = start_of number (config.cores * config.strands) entry
+start_in config entry number = start_of number (config.cores * config.strands) entry config.hyper
 
 abbrev pub bounds_in : Config → Bounds
 bounds_in config = record { ram = config.ram; budget = config.budget }

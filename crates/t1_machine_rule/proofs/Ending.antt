@@ -1,6 +1,6 @@
 -- A machine whose cores are over: its traces and log are a joint history, which can be listed by keys.
 use Rattle.t1_shape.proofs.Numbers.{strands_are}
-use Rattle.std.proofs.Common.{◌≡◌, ℕ, zero, suc, ◌*◌, ◌<◌, ◌≤◌, true, List, [], ◌∷◌, length, get_or, Some, refl, ap, ◌∙◌, subst, arith}
+use Rattle.std.proofs.Common.{◌≡◌, ℕ, zero, suc, ◌*◌, ◌<◌, ◌≤◌, Bool, true, List, [], ◌∷◌, length, get_or, Some, refl, ap, ◌∙◌, subst, arith}
 use Rattle.std.specs.Prelude.{All}
 use Rattle.std.specs.List.{slice_get, count_by}
 use Rattle.std.proofs.lemmas.List.{length-map}
@@ -33,9 +33,9 @@ use Rattle.t1_machine_rule.proofs.Fits.{parts, setup, fits}
 use Rattle.t1_machine_rule.proofs.Overs.{traces_are, over_parts}
 
 -- a strand begins with no unit
-pub start_units : (number count entry : ℕ) → (start_of number count entry).units ≡ 0
+pub start_units : (number count entry : ℕ) (hyper : Bool) → (start_of number count entry hyper).units ≡ 0
 unfolding start_of blank_of
-start_units number count entry = reg_units (with_reg (blank_of entry) 8 number) 9 count ∙ reg_units (blank_of entry) 8 number
+start_units number count entry hyper = reg_units (with_reg (blank_of entry hyper) 8 number) 9 count ∙ reg_units (blank_of entry hyper) 8 number
 
 -- a list of each trace, by its number
 trace_there : (traces : List Trace) (k : ℕ) (P : List Item → Type 0) → P [] → ((t : Trace) → slice_get traces k ≡ Some t → P t.items) → P (get_or (items_of traces) k [])
@@ -56,7 +56,7 @@ module _ (config : Config) (image : Image) (runs : IsRunnable (setup_of config i
   -- each trace has two items at most for each unit of the budget
   pub items_few : (strand : ℕ) (trace : Trace) → slice_get (traces_in m.cores) strand ≡ Some trace → length trace.items ≤ 2 * config.budget
   items_few strand trace e =
-      trace_few (bounds_in config) (start_in config image.entry strand) trace (start_units strand (config.cores * config.strands) image.entry) (history.table strand trace e).follows
+      trace_few (bounds_in config) (start_in config image.entry strand) trace (start_units strand (config.cores * config.strands) image.entry config.hyper) (history.table strand trace e).follows
 
   -- a budget, where there is a strand
   pub budget_small : config.budget ≤ 1000000

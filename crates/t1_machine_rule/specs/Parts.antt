@@ -18,7 +18,7 @@ use Rattle.t1_machine_rule.specs.Kept.{history_at, ever_served}
 abbrev pub no_part : CorePart
 no_part = record {
   traces = [];
-  state = λ s. start_of 0 1 0;
+  state = λ s. start_of 0 1 0 false;
   standing = λ s. Fetching;
   waiting = λ s. [];
   sending = λ s. [];
