@@ -1,4 +1,5 @@
 pub mod Blocks
 pub mod Digits
+pub mod Firsts
 pub mod Lengths
 pub mod Printing

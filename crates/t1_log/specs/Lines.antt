@@ -1,5 +1,7 @@
 -- The lines of a log. Each ends with its line feed.
-use Rattle.std.specs.Prelude.{ℕ, ◌*◌, List, [], ◌++◌, codes, decimal, if◌then◌else◌, Some, None}
+use Rattle.std.specs.Prelude.{ℕ, ◌*◌, Bool, true, false, not, ◌&&◌, List, [], ◌++◌, codes, decimal, if◌then◌else◌, Some, None}
+use Rattle.t1_num.specs.declared.chip.ChipKind.{ChipKind}
+use Rattle.t1_num.specs.declared.chip.ChipKind.TheVariants.{T1, T2}
 use Rattle.t1_event.specs.declared.item.Item.{Item}
 use Rattle.t1_event.specs.declared.item.ItemKind.{ItemKind}
 use Rattle.t1_event.specs.declared.item.ItemKind.TheVariants.{Fetch, Load, Store, Atomic, Membar, Flush}
@@ -11,7 +13,15 @@ use Rattle.t1_event.specs.declared.trace.Trace.{Trace}
 use Rattle.t1_event.specs.Kinds.{is_read, is_changing}
 use Rattle.t1_log.specs.Hex.{hex_of, hex_of_bytes}
 
--- the machine of the run
+abbrev pub is_t1 : ChipKind → Bool
+is_t1 T1 = true
+is_t1 T2 = false
+
+-- a machine that version 1 of the log can name: OpenSPARC T1, with no hyperprivileged mode
+abbrev pub is_first : Config → Bool
+is_first config = is_t1 config.chip && not config.hyper
+
+-- the machine of the run, in version 1
 unfoldable pub config_line_of : Config → List ℕ
 config_line_of config =
     codes "config cores " ++ (decimal config.cores ++ (codes " strands " ++ (decimal config.strands

@@ -1,6 +1,6 @@
 -- The log of a report: what was done, where each access stands, what the destinations served, and the
 -- memory order.
-use Rattle.std.specs.Prelude.{ℕ, ◌+◌, ◌/◌, List, [], ◌∷◌, ◌++◌, length, codes, decimal, Option, Some, None}
+use Rattle.std.specs.Prelude.{ℕ, ◌+◌, ◌/◌, IsTrue, List, [], ◌∷◌, ◌++◌, length, codes, decimal, Option, Some, None}
 use Rattle.t1_packet.specs.declared.cache.Cache.{Cache}
 use Rattle.t1_packet.specs.declared.cache.Cache.TheVariants.{Dcache, Icache}
 use Rattle.t1_packet.specs.Data.{KillData}
@@ -10,8 +10,9 @@ use Rattle.t1_event.specs.declared.item.How.TheVariants as how
 use Rattle.t1_event.specs.declared.commit.Commit.{Commit}
 use Rattle.t1_event.specs.declared.report.Report.{Report}
 use Rattle.t1_event.specs.declared.trace.Trace.{Trace}
+use Rattle.t1_event.specs.Printable.{IsPrintableReport}
 use Rattle.t1_log.specs.Hex.{hex_of, hex_of_bytes}
-use Rattle.t1_log.specs.Lines.{item_fields_of, last_line_of, end_line}
+use Rattle.t1_log.specs.Lines.{is_first, item_fields_of, last_line_of, end_line}
 use Rattle.t1_log.specs.Texts.{lines_from, blocks_from, head_lines_of, order_lines_of}
 
 abbrev pub version_line : List ℕ
@@ -81,6 +82,11 @@ abbrev pub console_lines_of : List ℕ → List ℕ
 console_lines_of bytes = lines_from console_line_of 0 (blocks_from ((length bytes + 31) / 32) bytes)
 
 -- ---- all
+
+-- a report that version 1 of the log can print
+pub record HasLog (report : Report) : Type 0 where
+  pub printable : IsPrintableReport report
+  pub first : IsTrue (is_first report.config)
 
 -- the machine and the image, the strands, the commits, the memory order, the console
 unfoldable pub text_of : Report → List ℕ

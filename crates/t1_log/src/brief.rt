@@ -14,6 +14,7 @@ ghost use Rattle.t1_io.specs.Held.{Grew, GrewPart};
 ghost use Rattle.t1_event.specs.Printable.{IsPrintableTrace, IsPrintableCommit, IsPrintableReport};
 ghost use Rattle.t1_log.specs.Brief.{units_of, items_in, kills_in, evicted_in, totals_line_of, totals_of, brief_of};
 ghost use Rattle.t1_log.specs.Lines.{last_line_of};
+ghost use Rattle.t1_log.specs.Log.{HasLog};
 ghost use Rattle.t1_log.specs.Texts.{lines_from};
 
 use crate::console::print_console;
@@ -125,15 +126,15 @@ fn print_endings<K: Sink>(traces: &[Trace], sink: &mut K) -> Result<(), Failed>
     Ok(())
 }
 
-/// Prints the summary of a report: the machine, how each strand ended, totals, and the console. Each
-/// line is written by one call of `write_all`. It takes no memory.
+/// Prints the summary of a report of a machine that version 1 can name: the machine, how each strand ended,
+/// totals, and the console. Each line is written by one call of `write_all`. It takes no memory.
 ///
 /// # Errors
 ///
 /// [`Failed`] only where the sink's count of faults rose. A front of the text was appended then.
 #[tactic(auto, unfolding(crate::specs::Brief::brief_of))]
 pub fn print_brief<K: Sink>(report: &Report, sink: &mut K) -> Result<(), Failed>
-    requires { IsPrintableReport report.now }
+    requires { HasLog report.now }
     ensures cause { HasCause (K.faults sink.old) (K.faults sink.new) result }
     ensures all { OnOk result (Grew (K.held sink.old) (K.held sink.new) (brief_of report.now)) }
     ensures part { OnErr result (GrewPart (K.held sink.old) (K.held sink.new) (brief_of report.now)) }

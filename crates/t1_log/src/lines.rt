@@ -1,13 +1,22 @@
 //! The lines of a log, each with its line feed.
 ghost use Rattle.std.specs.Prelude.{◌≡◌, ◌+◌, ◌≤◌, ◌++◌, length};
 ghost use Rattle.t1_event.specs.Kinds.{IsAccess};
-ghost use Rattle.t1_log.specs.Lines.{config_line_of, entry_line_of, block_line_of, got_of, put_of, access_fields_of, item_fields_of, ending_fields_of, ending_line_of, place_line_of};
+ghost use Rattle.t1_log.specs.Lines.{is_first, config_line_of, entry_line_of, block_line_of, got_of, put_of, access_fields_of, item_fields_of, ending_fields_of, ending_line_of, place_line_of};
 
 use crate::line::Line;
 use t1_event::{Config, Ending, Item, ItemKind, Place};
+use t1_num::ChipKind;
 
 /// The room of a line, in bytes. The longest line is that of a machine, with at most 142 bytes.
 pub(crate) const ROOM: usize = 192;
+
+/// Whether version 1 of the log can name this machine: OpenSPARC T1, with no hyperprivileged mode (this
+/// project's profile).
+pub fn is_first(config: &Config) -> bool
+    ensures { result ≡ is_first config.now }
+{
+    matches!(config.chip, ChipKind::T1) && !config.hyper
+}
 
 /// The line of a machine.
 #[tactic(auto, unfolding(crate::specs::Lines::config_line_of))]

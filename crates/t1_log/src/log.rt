@@ -20,8 +20,8 @@
 ghost use Rattle.std.specs.Prelude.{◌≡◌, ◌+◌, ◌≤◌, ◌++◌, length, All, OnOk, OnErr};
 ghost use Rattle.t1_io.specs.Causes.{HasCause};
 ghost use Rattle.t1_io.specs.Held.{Grew, GrewPart};
-ghost use Rattle.t1_event.specs.Printable.{HasText, IsPrintableTrace, IsPrintableCommit, IsPrintableReport};
-ghost use Rattle.t1_log.specs.Log.{place_fields_of, item_line_of, trace_lines_of, commit_line_of, text_of};
+ghost use Rattle.t1_event.specs.Printable.{HasText, IsPrintableTrace, IsPrintableCommit};
+ghost use Rattle.t1_log.specs.Log.{HasLog, place_fields_of, item_line_of, trace_lines_of, commit_line_of, text_of};
 ghost use Rattle.t1_log.specs.Texts.{lines_from};
 
 use crate::commits::commit_line;
@@ -127,14 +127,15 @@ fn print_commits<K: Sink>(log: &[Commit], sink: &mut K) -> Result<(), Failed>
     Ok(())
 }
 
-/// Prints the log of a report, each line by one call of `write_all`. It takes no memory.
+/// Prints the log of a report of a machine that version 1 can name, each line by one call of `write_all`. It
+/// takes no memory.
 ///
 /// # Errors
 ///
 /// [`Failed`] only where the sink's count of faults rose. A front of the text was appended then.
 #[tactic(auto, unfolding(crate::specs::Log::text_of))]
 pub fn print<K: Sink>(report: &Report, sink: &mut K) -> Result<(), Failed>
-    requires { IsPrintableReport report.now }
+    requires { HasLog report.now }
     ensures cause { HasCause (K.faults sink.old) (K.faults sink.new) result }
     ensures all { OnOk result (Grew (K.held sink.old) (K.held sink.new) (text_of report.now)) }
     ensures part { OnErr result (GrewPart (K.held sink.old) (K.held sink.new) (text_of report.now)) }

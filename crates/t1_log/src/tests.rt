@@ -2,12 +2,13 @@
 ghost use Rattle.std.specs.Prelude.{◌≡◌, ◌+◌, ◌*◌, ◌≤◌, IsTrue, All};
 ghost use Rattle.t1_event.specs.Printable.{FitsDigits, HasText, IsPrintableTrace, IsPrintableCommit, IsPrintableReport};
 
-use crate::{print, print_brief};
+use crate::{is_first, print, print_brief};
 use std::alloc::{AllocError, Global};
 use std::test::Fail;
 use t1_elf::{Image, Listed};
 use t1_event::{Commit, Config, Ending, How, Item, ItemKind, Place, Report, Trace};
 use t1_io::CalmSink;
+use t1_num::ChipKind;
 use t1_packet::{Cache, Kill, Kills, Op};
 
 fn item(kind: ItemKind, addr: u64, size: u8, got: u64, put: u64, how: How) -> Item {
@@ -139,6 +140,8 @@ fn report(alloc: Global) -> Result<Report, AllocError> {
     ];
     Ok(Report {
         config: Config {
+            chip: ChipKind::T1,
+            hyper: false,
             cores: 1,
             strands: 3,
             ram: 128,
@@ -283,6 +286,7 @@ end
 fn every_kind_of_line_is_printed(rt: HostRuntime) -> Result<(), Fail> {
     let report = report(rt.alloc())?;
     assert!(rt; is_printable(&report));
+    assert!(rt; is_first(&report.config));
     let mut sink = CalmSink::new(rt.alloc(), 4096)?;
     print(&report, &mut sink)?;
     assert_eq!(rt; sink.as_slice(), TEXT.as_bytes());
