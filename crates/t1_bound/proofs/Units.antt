@@ -14,11 +14,12 @@ use Rattle.t1_state.specs.declared.strand.Strand.{Strand}
 use Rattle.t1_state.specs.Registers.{with_reg}
 use Rattle.t1_state.specs.Ancillary.{with_asr}
 use Rattle.t1_state.specs.Privileged.{with_privileged}
+use Rattle.t1_state.specs.Hyper.{with_hpr}
 use Rattle.t1_state.specs.Traps.{in_handler, returned_to}
 use Rattle.t1_space.specs.Spaces.{is_scratchpad}
 use Rattle.t1_exec.specs.Arithmetic.{alu_result, computed}
 use Rattle.t1_exec.specs.Branches.{is_always, gone_to, branched, branched_on_codes}
-use Rattle.t1_exec.specs.Meanings.{with_reg_if, in_windows, moved, is_missing, with_privileged_read, with_privileged_written, after_done, after_retry, loaded, stored, accessed, managed, acted, gone_on, after_of}
+use Rattle.t1_exec.specs.Meanings.{with_reg_if, in_windows, moved, is_missing, with_privileged_read, with_privileged_written, is_missing_hyper, with_hyper_read, with_hyper_written, after_done, after_retry, loaded, stored, accessed, managed, acted, gone_on, after_of}
 
 same_if : (b : Bool) (n : ℕ) (s t : Strand) → s.units ≡ n → t.units ≡ n → (if b then s else t).units ≡ n
 same_if true n s t p q = p
@@ -76,6 +77,22 @@ read_units s reg rd = same_if (is_missing s reg) s.units _ _ refl (reg_units s r
 written_units : (s : Strand) (reg value : ℕ) → (with_privileged_written s reg value).units ≡ s.units
 unfolding with_privileged_written
 written_units s reg value = same_if (is_missing s reg) s.units _ _ refl (privileged_units s reg value)
+
+hpr_units : (s : Strand) (reg value : ℕ) → (with_hpr s reg value).units ≡ s.units
+unfolding with_hpr
+hpr_units s reg value =
+    let n : ℕ = s.units in
+    same_if (reg == 0) n _ _ refl
+    (same_if (reg == 1) n _ _ refl
+    (same_if (reg == 5) n _ _ refl refl))
+
+hyper_read_units : (s : Strand) (reg rd : ℕ) → (with_hyper_read s reg rd).units ≡ s.units
+unfolding with_hyper_read
+hyper_read_units s reg rd = same_if (is_missing_hyper s reg) s.units _ _ refl (reg_units s rd _)
+
+hyper_written_units : (s : Strand) (reg value : ℕ) → (with_hyper_written s reg value).units ≡ s.units
+unfolding with_hyper_written
+hyper_written_units s reg value = same_if (is_missing_hyper s reg) s.units _ _ refl (hpr_units s reg value)
 
 moved_units : (s : Strand) (r : Result Windows WinTrap) (rd value : ℕ) → (moved s r rd value).units ≡ s.units
 unfolding moved
@@ -152,6 +169,8 @@ after_units s (insn.ReadAsr asr rd) value = one_more _ s.units (reg_units s rd _
 after_units s (insn.WriteAsr asr rs1 src) value = one_more _ s.units (asr_units s asr _)
 after_units s (insn.ReadPr reg rd) value = one_more _ s.units (read_units s reg rd)
 after_units s (insn.WritePr reg rs1 src) value = one_more _ s.units (written_units s reg _)
+after_units s (insn.ReadHpr reg rd) value = one_more _ s.units (hyper_read_units s reg rd)
+after_units s (insn.WriteHpr reg rs1 src) value = one_more _ s.units (hyper_written_units s reg _)
 after_units s (insn.Load kind rd rs1 mem) value = one_more _ s.units (loaded_units s kind _ _ rd value)
 after_units s (insn.Store kind rd rs1 mem) value = one_more _ s.units (stored_units s _ _ rd)
 after_units s (insn.Ldstub rd rs1 mem) value = one_more _ s.units (reg_units s rd value)

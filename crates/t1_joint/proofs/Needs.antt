@@ -213,5 +213,5 @@ module _ (ram : ℕ) (blocks : ram % 65536 ≡ 0) where
   pub need_shaped : (s : Strand) (i : Insn) → IsShapedNeed ram (need_of s i ram)
   unfolding need_of
   need_shaped s i =
-      let before : List (Option ℕ) = illegal_trap i ∷ privilege_trap s i ∷ level_trap s i ∷ floating_trap i ∷ window_trap s i ∷ operation_trap s i ∷ jump_trap s i ∷ [] in
+      let before : List (Option ℕ) = illegal_trap s i ∷ privilege_trap s i ∷ level_trap s i ∷ floating_trap i ∷ window_trap s i ∷ operation_trap s i ∷ jump_trap s i ∷ [] in
       by_trap (first_of (traps_of s i ram)) (asked_of s i) (λ e. asked_shaped s i (last_none before (access_trap s i ram) e))

@@ -27,7 +27,7 @@ use Rattle.t1_exec.specs.Operands.{xor_of, sum_of}
 use Rattle.t1_exec.specs.Spaces.{space_of, cas_space, is_privileged}
 use Rattle.t1_exec.specs.Values.{store_size, cas_size, in_order, stored_of}
 use Rattle.t1_exec.specs.Accesses.{access_of}
-use Rattle.t1_exec.specs.Traps.{traps_of, first_of, trap_if, illegal_trap, needs_privilege, privilege_trap, needs_level, level_trap, floating_trap, window_trap_in, window_trap, alu_trap_in, software_trap, operation_trap, jump_trap_at, jump_trap, place_trap, access_trap_at, access_trap}
+use Rattle.t1_exec.specs.Traps.{traps_of, first_of, trap_if, is_below_hyper, illegal_trap, needs_privilege, privilege_trap, needs_level, level_trap, floating_trap, window_trap_in, window_trap, alu_trap_in, software_trap, operation_trap, jump_trap_at, jump_trap, place_trap, access_trap_at, access_trap}
 use Rattle.t1_exec.specs.Branches.{jump_of}
 use Rattle.t1_joint.proofs.Needs.{tests}
 use Rattle.t1_exec.specs.Needs.{need_of, asked_of, atomic_of, asked_in, or_need, OpFits}
@@ -71,10 +71,12 @@ if_small : (b : Bool) (number : ℕ) → number < 512 → IsSmall (trap_if b num
 if_small true number l = l
 if_small false number l = tt
 
-illegal_small : (i : Insn) → IsSmall (illegal_trap i)
+illegal_small : (s : Strand) (i : Insn) → IsSmall (illegal_trap s i)
 unfolding illegal_trap
-illegal_small insn.Illegal = omega arith
-illegal_small _ = tt
+illegal_small s insn.Illegal = omega arith
+illegal_small s (insn.ReadHpr reg rd) = if_small (is_below_hyper s) 0x010 (omega arith)
+illegal_small s (insn.WriteHpr reg rs1 src) = if_small (is_below_hyper s) 0x010 (omega arith)
+illegal_small s _ = tt
 
 privilege_small : (s : Strand) (i : Insn) → IsSmall (privilege_trap s i)
 unfolding privilege_trap
@@ -233,5 +235,5 @@ unfolding need_of
 need_small s i ram =
     or_small (first_of (traps_of s i ram)) (asked_of s i)
     (first_small (traps_of s i ram)
-    (illegal_small i, (privilege_small s i, (level_small s i, (floating_small i, (window_small s i, (operation_small s i, (jump_small s i, (access_small s i ram, tt)))))))))
+    (illegal_small s i, (privilege_small s i, (level_small s i, (floating_small i, (window_small s i, (operation_small s i, (jump_small s i, (access_small s i ram, tt)))))))))
     (asked_small s i)
