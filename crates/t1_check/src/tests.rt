@@ -7,6 +7,7 @@ use std::alloc::{AllocError, Global};
 use std::process::Abort;
 use t1_elf::{Image, Listed};
 use t1_event::{Config, How, Item, ItemKind, Place, Report, Trace};
+use t1_num::ChipKind;
 
 /// A kind, an address, a size or mask, the value got and the value put.
 type Access = (ItemKind, u64, u8, u64, u64);
@@ -280,6 +281,8 @@ fn judged(
     }
     let report = Report {
         config: Config {
+            chip: ChipKind::T1,
+            hyper: false,
             cores: 1,
             strands: 1,
             ram: 1024,

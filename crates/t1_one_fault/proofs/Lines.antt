@@ -94,7 +94,7 @@ console_ends number bytes = behind (codes "k ") (behind (hex_of_bytes bytes) fee
 
 pub few_strands : (config : Config) → IsTrue (is_in_limits config) → config.cores * config.strands ≤ 8 * 4
 few_strands config within =
-    let limits = and_parts _ _ within in
+    let limits = and_parts _ _ (and_parts _ _ within).1 in
     let cores : config.cores ≤ 8 = leb-true _ _ (and_parts _ _ limits.0).1 in
     let strands : config.strands ≤ 4 = leb-true _ _ (and_parts _ _ (and_parts _ _ limits.1).0).1 in
     mul-le-mul cores strands

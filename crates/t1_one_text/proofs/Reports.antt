@@ -13,7 +13,7 @@ use Rattle.t1_log.specs.Log.{version_line, trace_lines_of, commit_line_of, text_
 use Rattle.t1_read.specs.Exact.{NextIsNot, HasBytes}
 use Rattle.t1_take.specs.Items.{IsGoodTrace}
 use Rattle.t1_take.specs.WellFormed.{AreGoodCommits, IsNamed, IsGoodPlace, IsWellFormed}
-use Rattle.t1_take.proofs.HeadTexts.{AreSmall, numbers_small}
+use Rattle.t1_take.proofs.HeadTexts.{CanBeNamed, numbers_small}
 use Rattle.t1_read.proofs.Printed.{is_printable}
 use Rattle.t1_take.proofs.Leaving.{place_first, commit_first}
 use Rattle.t1_read.proofs.ReportsFound.{after_order, after_log, after_traces, after_image, text_parts, after_console_next, after_order_next, after_log_next, after_image_next, ram_small, named_all}
@@ -39,7 +39,7 @@ after_version report = config_line_of report.config ++ after_config report
 parts_of : (report : Report) → text_of report ≡ version_line ++ after_version report
 parts_of report = text_parts report ∙ head_parts report.config report.image (after_image report)
 
-pub config_cut : (a b : Config) (x y : List ℕ) → AreSmall a → AreSmall b → config_line_of a ++ x ≡ config_line_of b ++ y → (a ≡ b) × (x ≡ y)
+pub config_cut : (a b : Config) (x y : List ℕ) → CanBeNamed a → CanBeNamed b → config_line_of a ++ x ≡ config_line_of b ++ y → (a ≡ b) × (x ≡ y)
 unfolding config_line_of
 config_cut a b x y f g e =
     let wide : (n : ℕ) → n < 2 ^ 32 → n < 2 ^ 64 = λ n l. omega (arith, l) in
@@ -48,7 +48,7 @@ config_cut a b x y f g e =
     let ram = number_cut a.ram b.ram _ _ x y (wide a.ram f.ram) (wide b.ram g.ram) refl refl (ap (drop 5) strands.1) in
     let sets = number_cut a.sets b.sets _ _ x y (wide a.sets f.sets) (wide b.sets g.sets) refl refl (ap (drop 6) ram.1) in
     let budget = number_cut a.budget b.budget (codes "\n") (codes "\n") x y (wide a.budget f.budget) (wide b.budget g.budget) refl refl (ap (drop 8) sets.1) in
-    (λ i. record { cores = cores.0 i; strands = strands.0 i; ram = ram.0 i; sets = sets.0 i; budget = budget.0 i }, ap (drop 1) budget.1)
+    (λ i. record { chip = (f.first.chip ∙ sym g.first.chip) i; hyper = (f.first.hyper ∙ sym g.first.hyper) i; cores = cores.0 i; strands = strands.0 i; ram = ram.0 i; sets = sets.0 i; budget = budget.0 i }, ap (drop 1) budget.1)
 
 pub entry_cut : (a b : ℕ) (x y : List ℕ) → FitsDigits 10 a → FitsDigits 10 b → entry_line_of a ++ x ≡ entry_line_of b ++ y → (a ≡ b) × (x ≡ y)
 unfolding entry_line_of

@@ -4,7 +4,7 @@ use Rattle.std.proofs.lemmas.Bool.{cases_Bool, cases_lt, and_parts, leb-true, eq
 use Rattle.std.proofs.Math.Nat.{mul-le-mul}
 use Rattle.t1_num.specs.MemoryLaws.{AreBytes}
 use Rattle.t1_event.specs.declared.report.Config.{Config}
-use Rattle.t1_log.specs.Lines.{config_line_of, entry_line_of}
+use Rattle.t1_log.specs.Lines.{is_first, config_line_of, entry_line_of}
 use Rattle.t1_log.specs.Log.{version_line, item_line_of, trace_lines_of, commit_line_of, console_lines_of}
 use Rattle.t1_log.specs.Texts.{lines_from, blocks_from, is_blank, image_lines_of, head_lines_of, order_lines_of}
 use Rattle.t1_take.specs.Limits.{is_ram, is_in_limits}
@@ -40,7 +40,7 @@ head_is config entry ram rest =
 
 pub some_strand : (config : Config) → IsTrue (is_in_limits config) → 0 < config.cores * config.strands
 some_strand config w =
-    let limits = and_parts _ _ w in
+    let limits = and_parts _ _ (and_parts _ _ w).1 in
     let cores : 1 ≤ config.cores = leb-true _ _ (and_parts _ _ limits.0).0 in
     let strands : 1 ≤ config.strands = leb-true _ _ (and_parts _ _ (and_parts _ _ limits.1).0).0 in
     mul-le-mul cores strands
@@ -50,7 +50,7 @@ small_ram config w = (let numbers = numbers_small config w in let ram = numbers.
 
 pub whole_ram : (config : Config) → IsTrue (is_in_limits config) → config.ram % 32 ≡ 0
 whole_ram config w =
-    let limits = and_parts (leb 1 config.cores && leb config.cores 8) _ w in
+    let limits = and_parts (leb 1 config.cores && leb config.cores 8) _ (and_parts (is_first config) _ w).1 in
     let strands = and_parts (leb 1 config.strands && leb config.strands 4) _ limits.1 in
     let rest = and_parts (is_ram config.ram) _ strands.1 in
     let ram = and_parts (leb 65536 config.ram) _ rest.0 in

@@ -15,6 +15,7 @@ use Rattle.t1_event.specs.declared.report.Report.{Report}
 use Rattle.t1_event.specs.Kinds.{is_access, IsAccess}
 use Rattle.t1_event.specs.Times.{IsPlaced}
 use Rattle.t1_event.specs.Printable.{HasText, HasEnded, IsEvictedAddress, IsPrintableReport}
+use Rattle.t1_log.specs.Log.{HasLog}
 use Rattle.t1_take.specs.Items.{IsReached, IsValueOf, IsPlaceOf, IsGoodItem, IsGoodEnd}
 use Rattle.t1_take.specs.WellFormed.{IsGoodEvicted, IsWellFormed}
 use Rattle.t1_take.proofs.ItemsFound.{size_of}
@@ -67,7 +68,7 @@ evicted_fits (Some addr) g = g
 
 pub is_printable : (report : Report) → IsWellFormed report → IsPrintableReport report
 is_printable report w =
-    let limits = and_parts _ _ w.limits in
+    let limits = and_parts _ _ (and_parts _ _ w.limits).1 in
     let cores : report.config.cores ≤ 8 = leb-true _ _ (and_parts _ _ limits.0).1 in
     let rest = and_parts _ _ limits.1 in
     let strands : report.config.strands ≤ 4 = leb-true _ _ (and_parts _ _ rest.0).1 in
@@ -95,3 +96,6 @@ is_printable report w =
           );
       commits = w.commits;
     }
+
+pub has_log : (report : Report) → IsWellFormed report → HasLog report
+has_log report w = record { printable = is_printable report w; first = (and_parts _ _ w.limits).0 }

@@ -101,7 +101,7 @@ traces_next (t ∷ ts) ram rest good some = first_next t ts ram rest (good 0 t (
 
 pub after_image_next : (report : Report) → IsWellFormed report → NextIsNot 109 (after_image report)
 after_image_next report w =
-    let limits = and_parts _ _ w.limits in
+    let limits = and_parts _ _ (and_parts _ _ w.limits).1 in
     let cores : 1 ≤ report.config.cores = leb-true _ _ (and_parts _ _ limits.0).0 in
     let strands : 1 ≤ report.config.strands = leb-true _ _ (and_parts _ _ (and_parts _ _ limits.1).0).0 in
     let some : 1 * 1 ≤ report.config.cores * report.config.strands = mul-le-mul cores strands in
@@ -134,7 +134,7 @@ named_in config traces log within number all names k d l =
     let strand = slice_get_within traces _ at.0 at.1 in
     let item = slice_get_within at.0.items _ good.item at.2 in
     let few = (at_of (IsGoodTrace config.ram) traces _ at.0 all at.1).count in
-    let limits = and_parts _ _ within in
+    let limits = and_parts _ _ (and_parts _ _ within).1 in
     let cores : config.cores ≤ 8 = leb-true _ _ (and_parts _ _ limits.0).1 in
     let strands : config.strands ≤ 4 = leb-true _ _ (and_parts _ _ (and_parts _ _ limits.1).0).1 in
     let most : config.cores * config.strands ≤ 8 * 4 = mul-le-mul cores strands in

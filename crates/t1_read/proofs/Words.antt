@@ -34,7 +34,7 @@ strand_is traces s l = get_or-map (λ (t : Trace). t.items) traces s no_trace []
 pub can_be_checked : (report : Report) → IsWellFormed report → CanBeChecked report
 can_be_checked report w =
     let count : length (items_of report.traces) ≡ length report.traces = length-map report.traces (λ (t : Trace). t.items) in
-    let limits = and_parts _ _ w.limits in
+    let limits = and_parts _ _ (and_parts _ _ w.limits).1 in
     let cores : report.config.cores ≤ 8 = leb-true _ _ (and_parts _ _ limits.0).1 in
     let strands : report.config.strands ≤ 4 = leb-true _ _ (and_parts _ _ (and_parts _ _ limits.1).0).1 in
     let most : report.config.cores * report.config.strands ≤ 8 * 4 = mul-le-mul cores strands in

@@ -1,6 +1,6 @@
 //! Laws of well-formed reports.
 ghost use Rattle.t1_event.specs.declared.report.Report.{Report};
-ghost use Rattle.t1_event.specs.Printable.{IsPrintableReport};
+ghost use Rattle.t1_log.specs.Log.{HasLog};
 ghost use Rattle.t1_check.specs.Checked.{CanBeChecked};
 ghost use Rattle.t1_take.specs.WellFormed.{IsWellFormed};
 
@@ -11,5 +11,5 @@ pub fn well_formed_can_be_checked()
 
 /// A well-formed report has a log.
 pub fn well_formed_is_printable()
-    ensures { (report : Report) → IsWellFormed report → IsPrintableReport report }
+    ensures { (report : Report) → IsWellFormed report → HasLog report }
 {}

@@ -1,11 +1,14 @@
--- The line of a machine, in pieces, and its numbers.
+-- The line of a machine, in pieces, and what it can name.
 use Rattle.std.proofs.Common.{◌≡◌, ℕ, ◌^◌, ◌<◌, ◌≤◌, ◌==◌, ◌||◌, Bool, true, false, ◌++◌, codes, decimal, IsTrue, refl, arith}
 use Rattle.std.proofs.lemmas.Bool.{and_parts, leb-true, eqb-true}
 use Rattle.t1_event.specs.declared.report.Config.{Config}
 use Rattle.t1_log.specs.Lines.{config_line_of}
+use Rattle.t1_log.proofs.Firsts.{IsOfFirst, first_is}
 use Rattle.t1_take.specs.Limits.{is_set_count, is_in_limits}
 
-pub record AreSmall (config : Config) : Type 0 where
+-- its chip and mode go without saying, and its numbers have 32 bits
+pub record CanBeNamed (config : Config) : Type 0 where
+  pub first : IsOfFirst config
   pub cores : config.cores < 2 ^ 32
   pub strands : config.strands < 2 ^ 32
   pub ram : config.ram < 2 ^ 32
@@ -34,9 +37,10 @@ sets_small n =
     (either _ _ P (λ e. at_most n 256 e (omega arith))
     (either _ _ P (λ e. at_most n 512 e (omega arith)) (λ e. at_most n 1024 e (omega arith)))))))))))
 
-pub numbers_small : (config : Config) → IsTrue (is_in_limits config) → AreSmall config
+pub numbers_small : (config : Config) → IsTrue (is_in_limits config) → CanBeNamed config
 numbers_small config limits =
-    let all = and_parts _ _ limits in
+    let whole = and_parts _ _ limits in
+    let all = and_parts _ _ whole.1 in
     let cores : config.cores ≤ 8 = leb-true _ _ (and_parts _ _ all.0).1 in
     let rest = and_parts _ _ all.1 in
     let strands : config.strands ≤ 4 = leb-true _ _ (and_parts _ _ rest.0).1 in
@@ -45,6 +49,7 @@ numbers_small config limits =
     let last = and_parts _ _ memory.1 in
     let budget : config.budget ≤ 1000000 = leb-true _ _ (and_parts _ _ (and_parts _ _ last.1).1).0 in
     record {
+      first = first_is config whole.0;
       cores = omega (arith, cores);
       strands = omega (arith, strands);
       ram = omega (arith, ram);

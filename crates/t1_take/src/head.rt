@@ -1,10 +1,11 @@
 //! The lines of a log before its lists: the machine, where every strand starts, and the image.
 
-ghost use Rattle.std.specs.Prelude.{ℕ, ◌≡◌, ◌+◌, ◌-◌, ◌%◌, ◌≤◌, ◌&&◌, nat_le, nat_lt, if◌then◌else◌, ◌++◌, List, length, drop, get_or, IsTrue, IfSome, Some};
+ghost use Rattle.std.specs.Prelude.{ℕ, ◌≡◌, ◌+◌, ◌-◌, ◌%◌, ◌≤◌, ◌&&◌, false, nat_le, nat_lt, if◌then◌else◌, ◌++◌, List, length, drop, get_or, IsTrue, IfSome, Some};
 ghost use Rattle.t1_log.specs.Hex.{hex_of_bytes};
 ghost use Rattle.t1_log.specs.Texts.{is_blank};
 ghost use Rattle.t1_take.specs.Image.{IsWritten, IsBlockAt, HasBlock};
 ghost use Rattle.t1_num.specs.MemoryLaws.{AreBytes};
+ghost use Rattle.t1_num.specs.declared.chip.ChipKind.TheVariants.{T1};
 ghost use Rattle.t1_event.specs.declared.report.Config.{Config as ConfigData};
 ghost use Rattle.t1_event.specs.Printable.{FitsDigits};
 ghost use Rattle.t1_log.specs.Lines.{config_line_of, entry_line_of, block_line_of};
@@ -13,6 +14,8 @@ ghost use Rattle.t1_take.specs.Limits.{is_ram, is_set_count, is_budget, is_in_li
 
 use crate::cursor::Cursor;
 use t1_event::Config;
+use t1_log::is_first;
+use t1_num::ChipKind;
 
 /// Whether this much RAM can be: 64 KiB to 256 MiB in steps of 64 KiB.
 fn is_ram(ram: u32) -> bool
@@ -47,32 +50,32 @@ fn is_budget(budget: u32, strands: u64) -> bool
     1 <= budget && (budget <= 1_000_000 && u64::from(budget) * strands <= 1_000_000)
 }
 
-/// Whether the numbers of a machine are in their limits: 1 to 8 cores of 1 to 4 strands, RAM of 64 KiB to
-/// 256 MiB in steps of 64 KiB, a power of two up to 1,024 of L2 sets, and a budget of units so that all
-/// strands make at most 1,000,000.
+/// Whether version 1 of the log can name this machine, OpenSPARC T1 with no hyperprivileged mode, and its
+/// numbers are in their limits: 1 to 8 cores of 1 to 4 strands, RAM of 64 KiB to 256 MiB in steps of 64 KiB,
+/// a power of two up to 1,024 of L2 sets, and a budget of units so that all strands make at most 1,000,000.
 pub fn is_in_limits(config: &Config) -> bool
     ensures { result ≡ is_in_limits config.now }
 {
-    (1 <= config.cores && config.cores <= 8)
-        && ((1 <= config.strands && config.strands <= 4)
-            && (config.ram <= 268_435_456
-                && is_ram(config.ram as u32)
-                && (is_set_count(config.sets)
-                    && is_budget(
-                        config.budget,
-                        u64::from(config.cores) * u64::from(config.strands),
-                    ))))
+    let strands = u64::from(config.cores) * u64::from(config.strands);
+    is_first(config)
+        && ((1 <= config.cores && config.cores <= 8)
+            && ((1 <= config.strands && config.strands <= 4)
+                && (config.ram <= 268_435_456
+                    && is_ram(config.ram as u32)
+                    && (is_set_count(config.sets) && is_budget(config.budget, strands)))))
 }
 
-/// The machine of these numbers, where they are in their limits.
+/// The machine of these numbers, OpenSPARC T1 with no hyperprivileged mode, where they are in their limits.
 fn config_of(cores: u32, strands: u32, ram: u32, sets: u32, budget: u32) -> Option<Config>
-    ensures some { IfSome result (λ config. (config ≡ record { cores = cores; strands = strands; ram = ram; sets = sets; budget = budget }) × IsTrue (is_in_limits config)) }
-    ensures finds { IsTrue (is_in_limits (record { cores = cores; strands = strands; ram = ram; sets = sets; budget = budget })) → result ≡ Some (record { cores = cores; strands = strands; ram = ram; sets = sets; budget = budget }) }
+    ensures some { IfSome result (λ config. (config ≡ record { chip = T1; hyper = false; cores = cores; strands = strands; ram = ram; sets = sets; budget = budget }) × IsTrue (is_in_limits config)) }
+    ensures finds { IsTrue (is_in_limits (record { chip = T1; hyper = false; cores = cores; strands = strands; ram = ram; sets = sets; budget = budget })) → result ≡ Some (record { chip = T1; hyper = false; cores = cores; strands = strands; ram = ram; sets = sets; budget = budget }) }
 {
     if cores > 8 || strands > 4 {
         return None;
     }
     let config = Config {
+        chip: ChipKind::T1,
+        hyper: false,
         cores: cores as u8,
         strands: strands as u8,
         ram: u64::from(ram),

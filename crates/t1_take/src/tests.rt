@@ -6,6 +6,7 @@ use crate::{
 use std::alloc::{AllocError, Global};
 use t1_elf::Listed;
 use t1_event::{Config, Ending, How, Item, ItemKind, Place, Trace};
+use t1_num::ChipKind;
 
 /// A line of each kind, and a word in another place.
 const LINES: &[&[u8]] = &[
@@ -44,6 +45,8 @@ fn strand_of(alloc: Global, item: Item, end: End) -> Result<Trace, AllocError> {
 /// Takes the lines of the machine and of its image, and answers whether they are those of `LINES`.
 fn takes_the_head(cursor: &mut Cursor, text: &[u8]) -> bool {
     let config = Config {
+        chip: ChipKind::T1,
+        hyper: false,
         cores: 1,
         strands: 1,
         ram: 65_536,

@@ -1,5 +1,5 @@
-use Rattle.t1_read.proofs.Printed.{is_printable}
+use Rattle.t1_read.proofs.Printed.{has_log}
 use Rattle.t1_read.proofs.laws.well_formed_is_printable.Goals as goal
 
 pub returns : goal.returns
-returns c = is_printable
+returns c = has_log

@@ -1,5 +1,6 @@
 use Rattle.std.proofs.Common.{◌≡◌, ◌∙◌, ◌++◌, ℕ, List, drop, true, false, codes, decimal, IsTrue, Some, sym, ap, subst, refl, arith}
 use Rattle.std.proofs.lemmas.Option.{same_Some, none-some}
+use Rattle.t1_num.specs.declared.chip.ChipKind.TheVariants.{T1}
 use Rattle.t1_event.specs.declared.report.Config.{Config}
 use Rattle.t1_log.specs.Lines.{config_line_of}
 use Rattle.t1_take.specs.Taken.{IsGood, Leaves}
@@ -13,7 +14,7 @@ use Rattle.t1_take.proofs.head.take_config.Goals as goal
 
 -- where the line of a machine stands, its numbers were taken
 walked : (c : After-word-6) (config : Config) (rest : List ℕ) → IsTrue (is_in_limits config) → IsGood c.args.cursor.now → drop c.args.cursor.now.at c.args.text.now ≡ config_line_of config ++ rest
-    → ◌≡◌ {A = Config} (record { cores = c.number-cores.result; strands = c.number-strands.result; ram = c.number-ram.result; sets = c.number-sets.result; budget = c.number-budget.result }) config
+    → ◌≡◌ {A = Config} (record { chip = T1; hyper = false; cores = c.number-cores.result; strands = c.number-strands.result; ram = c.number-ram.result; sets = c.number-sets.result; budget = c.number-budget.result }) config
     × Leaves c.args.text.now c.args.cursor.now c.word-6.new.self rest
 walked c config rest limits g whole =
     let e = whole ∙ ap (λ (t : List ℕ). t ++ rest) (config_text config) in
@@ -40,7 +41,7 @@ walked c config rest limits g whole =
     let n4 = c.number-budget.ensures.finds config.budget (t4 ++ rest) small.budget refl (next _ (decimal config.budget) t4 rest w4.rest_is) in
     let w5 = c.word-6.ensures.finds (omega arith) (rest) n4.1.rest_is in
     let is_good : IsGood c.word-6.new.self = w5.good (n4.1.good (w4.good (n3.1.good (w3.good (n2.1.good (w2.good (n1.1.good (w1.good (n0.1.good (w0.good g)))))))))) in (
-      λ i. record { cores = n0.0 i; strands = n1.0 i; ram = n2.0 i; sets = n3.0 i; budget = n4.0 i },
+      λ i. record { chip = sym small.first.chip i; hyper = sym small.first.hyper i; cores = n0.0 i; strands = n1.0 i; ram = n2.0 i; sets = n3.0 i; budget = n4.0 i },
       record { good = λ _. is_good; rest_is = w5.rest_is },
     )
 
