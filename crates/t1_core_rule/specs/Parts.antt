@@ -1,5 +1,5 @@
 -- The part of a run that a history of a core is.
-use Rattle.std.specs.Prelude.{ℕ, List, [], length, Option, Some, None}
+use Rattle.std.specs.Prelude.{ℕ, List, [], length, false, Option, Some, None}
 use Rattle.std.specs.List.{slice_get}
 use Rattle.t1_shape.specs.Shapes.{Shape}
 use Rattle.t1_decode.specs.Words.{insn_of}

@@ -1,5 +1,5 @@
 -- The parts of a run that a machine's state is, and its traces.
-use Rattle.std.specs.Prelude.{ℕ, List, [], ◌∷◌, ◌++◌, Option, Some, None}
+use Rattle.std.specs.Prelude.{ℕ, List, [], ◌∷◌, ◌++◌, false, Option, Some, None}
 use Rattle.std.specs.List.{slice_get}
 use Rattle.t1_shape.specs.Shapes.{Shape}
 use Rattle.t1_state.specs.Registers.{start_of}
