@@ -4,11 +4,16 @@ use Rattle.std.proofs.lemmas.Bool.{cases_Bool, and_parts, or_cases, leb-true, eq
 use Rattle.std.proofs.Math.ListN.{drop_of_length-le}
 use Rattle.std.proofs.Math.Seq.{drop-cons}
 use Rattle.std.specs.Prelude.{IfOk}
+use Rattle.t1_num.specs.declared.chip.ChipKind.{ChipKind}
+use Rattle.t1_num.specs.declared.chip.ChipKind.TheVariants.{T1}
+use Rattle.t1_shape.specs.Numbers.{most_strands, most_l2_sets}
 use Rattle.t1_elf.specs.declared.object.Image.{Image}
 use Rattle.t1_elf.specs.declared.object.Object.{Object}
 use Rattle.t1_elf.specs.Images.{image_of}
 use Rattle.t1_elf.specs.Parsed.{KeepsTo}
 use Rattle.t1_event.specs.declared.report.Config.{Config}
+use Rattle.t1_log.specs.Lines.{is_first}
+use Rattle.t1_log.proofs.Firsts.{first_is}
 use Rattle.t1_machine.specs.Start.{IsRunnable, setup_of}
 use Rattle.t1_cli.specs.declared.command.Reading.{Reading}
 use Rattle.t1_cli.specs.Words.{config_in_limits, read_next, ended, options_after}
@@ -36,6 +41,7 @@ few_sets n =
 
 -- the limits, one by one
 pub record AreLimits (config : Config) : Type 0 where
+  pub first : is_first config ≡ true
   pub some_cores : 1 ≤ config.cores
   pub few_cores : config.cores ≤ 8
   pub some_strands : 1 ≤ config.strands
@@ -59,7 +65,8 @@ limits_of config h =
     let some : Bool = nat_le 1 config.budget in
     let few : Bool = nat_le config.budget 1000000 in
     let all : Bool = nat_le (config.budget * (config.cores * config.strands)) 1000000 in
-    let a = and_parts cores (strands && ((low && (most && blocks)) && (sets && (some && (few && all))))) h in
+    let whole = and_parts (is_first config) (cores && (strands && ((low && (most && blocks)) && (sets && (some && (few && all)))))) h in
+    let a = and_parts cores (strands && ((low && (most && blocks)) && (sets && (some && (few && all))))) whole.1 in
     let core = and_parts (nat_le 1 config.cores) (nat_le config.cores 8) a.0 in
     let b = and_parts strands ((low && (most && blocks)) && (sets && (some && (few && all)))) a.1 in
     let strand = and_parts (nat_le 1 config.strands) (nat_le config.strands 4) b.0 in
@@ -71,6 +78,7 @@ limits_of config h =
     let k = and_parts few all g.1 in
     let counts = few_sets config.sets f.0 in
     record {
+      first = whole.0;
       some_cores = leb-true 1 config.cores core.0;
       few_cores = leb-true config.cores 8 core.1;
       some_strands = leb-true 1 config.strands strand.0;
@@ -97,16 +105,16 @@ pub runnable : (config : Config) (image : Image) → is_in_limits config ≡ tru
     → IsRunnable (setup_of config image)
 runnable config image h size entry =
     let l = limits_of config h in
+    let first : config.chip ≡ T1 = (first_is config l.first).chip in
     record {
-      shape = refl;
       some_cores = l.some_cores;
       few_cores = l.few_cores;
       some_strands = l.some_strands;
-      few_strands = l.few_strands;
+      few_strands = subst (λ (chip : ChipKind). config.strands ≤ most_strands chip) (sym first) l.few_strands;
       blocks = l.blocks;
       few_bytes = l.few_bytes;
       some_sets = l.some_sets;
-      few_sets = l.few_sets;
+      few_sets = subst (λ (chip : ChipKind). config.sets ≤ most_l2_sets chip) (sym first) l.few_sets;
       some_units = l.some_units;
       few_units = l.few_units;
       image = size;

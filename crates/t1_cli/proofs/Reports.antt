@@ -1,7 +1,7 @@
 -- The report of a run, and why an input is not run.
 use Rattle.std.proofs.Common.{◌≡◌, ℕ, ◌^◌, ◌<◌, ◌≤◌, Bool, List, length, Some, Err, if◌then◌else◌, refl, ap, sym, ◌∙◌, subst}
 use Rattle.std.specs.Prelude.{All, IsTrue}
-use Rattle.std.proofs.lemmas.Bool.{lt-ltb, le-ltb}
+use Rattle.std.proofs.lemmas.Bool.{and_parts, lt-ltb, le-ltb}
 use Rattle.t1_num.specs.MemoryLaws.{AreBytes}
 use Rattle.t1_elf.specs.declared.error.ElfError.{ElfError}
 use Rattle.t1_elf.specs.Parsed.{parsed}
@@ -11,6 +11,7 @@ use Rattle.t1_event.specs.declared.trace.Trace.{Trace}
 use Rattle.t1_event.specs.Items.{items_of}
 use Rattle.t1_event.specs.Keys.{IsOrderByKeys}
 use Rattle.t1_event.specs.Printable.{IsPrintableReport}
+use Rattle.t1_log.specs.Log.{HasLog}
 use Rattle.t1_joint.specs.Start.{Setup}
 use Rattle.t1_machine.specs.declared.schedule.Schedule.{Schedule}
 use Rattle.t1_machine.specs.Machine.{MachineState}
@@ -72,8 +73,11 @@ is_report w schedule first last report limits low runs bytes start goes e =
     }
 
 -- it has a text
-pub has_text : (w : Setup) (schedule : Schedule) (report : Report) → IsReportOf w schedule report → w.image.entry < 2 ^ 40 → IsPrintableReport report
-has_text w schedule report r low = subst (λ (v : Report). IsPrintableReport v) (sym r.is) (r.obeys.printable low)
+pub has_text : (w : Setup) (schedule : Schedule) (report : Report) → IsReportOf w schedule report → w.image.entry < 2 ^ 40 → HasLog report
+has_text w schedule report r low = record {
+  printable = subst (λ (v : Report). IsPrintableReport v) (sym r.is) (r.obeys.printable low);
+  first = (and_parts _ _ r.reads_back.formed.limits).0;
+}
 
 -- ---- refusals
 

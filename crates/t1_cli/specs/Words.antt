@@ -1,6 +1,7 @@
 -- The words of the command line: a command, and its options in any order, each at most once.
 use Rattle.std.specs.Prelude.{ℕ, ◌+◌, ◌*◌, ◌-◌, ◌%◌, ◌^◌, ◌≤◌, ◌==◌, ◌&&◌, ◌||◌, nat_le, nat_lt, not, Bool, true, false, IsTrue, List, [], ◌∷◌, length, codes, Option, Some, None, is_none, option_map, unwrap_or, if◌then◌else◌, ⊤}
 use Rattle.std.specs.Str.{bytes_eq}
+use Rattle.t1_num.specs.declared.chip.ChipKind.TheVariants.{T1}
 use Rattle.t1_event.specs.declared.report.Config.{Config}
 use Rattle.t1_take.specs.Limits.{is_in_limits}
 use Rattle.t1_cli.specs.declared.command.Command.{Command}
@@ -102,9 +103,12 @@ options_of words = options_after (Some (record { given = none_given; waiting = N
 
 -- ---- the machine
 
--- the machine that is asked for, with what stands where an option is not given
+-- the machine that is asked for, an OpenSPARC T1 with no hyperprivileged mode, with what stands where an option
+-- is not given
 abbrev pub config_of : Given → Config
 config_of given = record {
+  chip = T1;
+  hyper = false;
   cores = unwrap_or given.cores 8;
   strands = unwrap_or given.strands 4;
   ram = unwrap_or given.ram 16777216;

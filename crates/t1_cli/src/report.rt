@@ -3,7 +3,7 @@ ghost use Rattle.std.specs.Prelude.{◌≡◌, ◌≢◌, ◌<◌, ◌^◌, IfOk
 ghost use Rattle.t1_num.specs.MemoryLaws.{AreBytes};
 ghost use Rattle.t1_io.specs.Causes.{HasCause, Rose};
 ghost use Rattle.t1_io.specs.Held.{Grew, GrewPart};
-ghost use Rattle.t1_event.specs.Printable.{IsPrintableReport};
+ghost use Rattle.t1_log.specs.Log.{HasLog};
 ghost use Rattle.t1_machine.specs.Start.{IsRunnable, setup_of};
 ghost use Rattle.t1_cli.specs.Runs.{IsReportOf, by_schedule, printed_of};
 ghost use Rattle.t1_cli.specs.Serial.{HasNoText};
@@ -40,7 +40,7 @@ fn run_image(
     requires runnable { IsRunnable (setup_of config image) }
     requires entry { image.entry < 2 ^ 40 }
     ensures report { IfOk result (IsReportOf (setup_of config image) schedule) }
-    ensures text { IfOk result IsPrintableReport }
+    ensures text { IfOk result HasLog }
 {
     are_bytes(image.ram.as_slice());
     let mut chip = Chip::build(alloc, &config, image)?;
@@ -50,7 +50,7 @@ fn run_image(
 
 /// Writes the log of a report, or its summary.
 fn print_report<K: Sink>(report: &Report, brief: bool, out: &mut K) -> Result<(), Failed>
-    requires { IsPrintableReport report.now }
+    requires { HasLog report.now }
     ensures cause { HasCause (K.faults out.old) (K.faults out.new) result }
     ensures all { OnOk result (Grew (K.held out.old) (K.held out.new) (printed_of brief report.now)) }
     ensures part { OnErr result (GrewPart (K.held out.old) (K.held out.new) (printed_of brief report.now)) }
@@ -64,7 +64,7 @@ fn print_report<K: Sink>(report: &Report, brief: bool, out: &mut K) -> Result<()
 
 /// Writes the log of a report, or its summary, and says how its strands ended, or that the write failed.
 pub fn write_report<K: Sink>(report: &Report, brief: bool, out: &mut K) -> Verdict
-    requires { IsPrintableReport report.now }
+    requires { HasLog report.now }
     ensures judged { Judged (λ why. ⊥) (λ r. r ≡ report.now) (printed_of brief) (K.held out.old) (K.held out.new) result }
     ensures unchanged { HasNoText (status_of_verdict result) → out.new ≡ out.old }
     ensures fault { result ≡ Verdict.WriteFault → Rose (K.faults out.old) (K.faults out.new) }

@@ -1,5 +1,6 @@
 //! The reader of the words.
-ghost use Rattle.std.specs.Prelude.{ℕ, ◌≡◌, ◌≤◌, map, string_bytes, IfSome, IsTrue};
+ghost use Rattle.std.specs.Prelude.{ℕ, ◌≡◌, ◌≤◌, false, map, string_bytes, IfSome, IsTrue};
+ghost use Rattle.t1_num.specs.declared.chip.ChipKind.TheVariants.{T1};
 ghost use Rattle.t1_cli.specs.Words.{digits_from, number_of, flag_of, once, with_number, complete, begun, numbered, read_next, ended, options_of, config_in_limits, config_of, has_no_machine, is_bare, run_command, live_command, bare_command, guest_command, command_named, command_of, schedule_of, task_of, IsCommand, IsTask};
 ghost use Rattle.t1_take.specs.Limits.{is_in_limits};
 
@@ -7,6 +8,7 @@ use crate::command::{Command, Flag, Given, Reading, Run, Task};
 use t1_event::Config;
 use t1_gen::MOST_SIZE;
 use t1_machine::Schedule;
+use t1_num::ChipKind;
 use t1_take::is_in_limits;
 
 /// The value of digits, where each is one and the value has 64 bits.
@@ -188,20 +190,22 @@ fn read_options(words: &[String]) -> Option<Given>
 /// Whether these numbers are small enough for the fields of a machine in its limits.
 fn are_small(cores: u64, strands: u64, sets: u64, budget: u64) -> bool
     ensures fits { IsTrue result → (cores ≤ 8) × (strands ≤ 4) × (sets ≤ 1024) × (budget ≤ 1000000) }
-    ensures only { (ram : ℕ) → IsTrue (is_in_limits (record { cores = cores; strands = strands; ram = ram; sets = sets; budget = budget })) → IsTrue result }
+    ensures only { (ram : ℕ) → IsTrue (is_in_limits (record { chip = T1; hyper = false; cores = cores; strands = strands; ram = ram; sets = sets; budget = budget })) → IsTrue result }
 {
     cores <= 8 && (strands <= 4 && (sets <= 1024 && budget <= 1_000_000))
 }
 
-/// The machine of these numbers, where they are in their limits.
+/// The machine of these numbers, an OpenSPARC T1 with no hyperprivileged mode, where they are in their limits.
 fn machine(cores: u64, strands: u64, ram: u64, sets: u64, budget: u64) -> Option<Config>
-    ensures value { result ≡ config_in_limits (record { cores = cores; strands = strands; ram = ram; sets = sets; budget = budget }) }
+    ensures value { result ≡ config_in_limits (record { chip = T1; hyper = false; cores = cores; strands = strands; ram = ram; sets = sets; budget = budget }) }
     ensures limits { IfSome result (λ config. IsTrue (is_in_limits config)) }
 {
     if !are_small(cores, strands, sets, budget) {
         return None;
     }
     let config = Config {
+        chip: ChipKind::T1,
+        hyper: false,
         cores: cores as u8,
         strands: strands as u8,
         ram,

@@ -381,6 +381,8 @@ insn_tokens : (addr : ℕ) (i : Insn) → IsInRange i → AreParts (slots_parts 
 unfolding shape_of fields_of
 insn_tokens addr insn.Illegal h = bare_tokens (plain_fields 0 0 (Register 0) (Some 0))
 insn_tokens addr insn.FpOff h = bare_tokens (plain_fields 0 0 (Register 0) (Some 0))
+insn_tokens addr (insn.ReadHpr reg rd) h = bare_tokens (plain_fields 0 0 (Register 0) (Some 0))
+insn_tokens addr (insn.WriteHpr reg rs1 src) h = bare_tokens (plain_fields 0 0 (Register 0) (Some 0))
 insn_tokens addr insn.Stbar h = bare_tokens (plain_fields 0 0 (Register 0) (Some 0))
 insn_tokens addr insn.Flushw h = bare_tokens (plain_fields 0 0 (Register 0) (Some 0))
 insn_tokens addr insn.Saved h = bare_tokens (plain_fields 0 0 (Register 0) (Some 0))

@@ -231,6 +231,8 @@ mnemonic_name : (i : Insn) → has_text i ≡ true → IsInRange i → is_name (
 unfolding mnemonic_of is_name all_bytes starts_name is_name_byte is_letter is_digit
 mnemonic_name insn.Illegal t h = cc
 mnemonic_name insn.FpOff t h = cc
+mnemonic_name (insn.ReadHpr reg rd) t h = cc
+mnemonic_name (insn.WriteHpr reg rs1 src) t h = cc
 mnemonic_name insn.Stbar t h = refl
 mnemonic_name insn.Flushw t h = refl
 mnemonic_name insn.Saved t h = refl

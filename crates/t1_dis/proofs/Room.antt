@@ -116,6 +116,8 @@ pub registers_shown : (addr : ℕ) (i : Insn) → IsInRange i → AreRegisters (
 unfolding fields_of
 registers_shown addr insn.Illegal h = record { rd = omega arith; rs1 = omega arith; source = omega arith }
 registers_shown addr insn.FpOff h = record { rd = omega arith; rs1 = omega arith; source = omega arith }
+registers_shown addr (insn.ReadHpr reg rd) h = record { rd = omega arith; rs1 = omega arith; source = omega arith }
+registers_shown addr (insn.WriteHpr reg rs1 src) h = record { rd = omega arith; rs1 = omega arith; source = omega arith }
 registers_shown addr insn.Stbar h = record { rd = omega arith; rs1 = omega arith; source = omega arith }
 registers_shown addr insn.Flushw h = record { rd = omega arith; rs1 = omega arith; source = omega arith }
 registers_shown addr insn.Saved h = record { rd = omega arith; rs1 = omega arith; source = omega arith }

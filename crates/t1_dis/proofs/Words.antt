@@ -619,6 +619,8 @@ pub text_is_word : TextIsWord
 unfolding parts_of mnemonic_of shape_of fields_of slots_of
 text_is_word env addr word insn.Illegal a t s = cc
 text_is_word env addr word insn.FpOff a t s = cc
+text_is_word env addr word (insn.ReadHpr reg rd) a t s = cc
+text_is_word env addr word (insn.WriteHpr reg rs1 src) a t s = cc
 text_is_word env addr word insn.Stbar a t s = bare_word env addr (codes "stbar") insn.Stbar stbar_mnemonic s
 text_is_word env addr word insn.Flushw a t s = bare_word env addr (codes "flushw") insn.Flushw flushw_mnemonic s
 text_is_word env addr word insn.Saved a t s = bare_word env addr (codes "saved") insn.Saved saved_mnemonic s

@@ -30,6 +30,6 @@ IsOneWord env addr ws i = (s : Instruction) × (same : ℕ) × (read_words env a
 abbrev pub TextIsWord : Type 0
 TextIsWord = (env : Env) (addr word : ℕ) (i : Insn) → addr < 2 ^ 39 → has_text i ≡ true → IsInRange i → IsOneWord env addr (lexemes_of (parts_of addr word i)) i
 
--- the text of a word without an instruction is the word itself
+-- the text of a word without an instruction, or of one that the assembler has no form of, is the word itself
 abbrev pub TextIsItself : Type 0
 TextIsItself = (env : Env) (addr word : ℕ) → word < 2 ^ 32 → read_words env addr (Some (lexemes_of (word_parts word))) ≡ Ok (record { labels = []; body = Holds (Numbers Word (Some word ∷ [])) })

@@ -166,6 +166,8 @@ cas_text true = codes "casxa"
 unfoldable pub mnemonic_of : Insn → List ℕ
 mnemonic_of insn.Illegal = []
 mnemonic_of insn.FpOff = []
+mnemonic_of (insn.ReadHpr reg rd) = []
+mnemonic_of (insn.WriteHpr reg rs1 src) = []
 mnemonic_of insn.Stbar = codes "stbar"
 mnemonic_of insn.Flushw = codes "flushw"
 mnemonic_of insn.Saved = codes "saved"

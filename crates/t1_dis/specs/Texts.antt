@@ -110,10 +110,13 @@ line_parts name slots f = Long Name name ∷ annulled f.annul (predicted f.taken
 abbrev pub word_parts : ℕ → List Part
 word_parts word = Long Name (codes ".word") ∷ Space ∷ hex 8 word ∷ []
 
--- an instruction of the profile
+-- an instruction of the profile that the assembler has a form of: it has none of the hyperprivileged
+-- registers (this project's profile)
 abbrev pub has_text : Insn → Bool
 has_text insn.Illegal = false
 has_text insn.FpOff = false
+has_text (insn.ReadHpr reg rd) = false
+has_text (insn.WriteHpr reg rs1 src) = false
 has_text _ = true
 
 -- the parts of the text of an instruction that stands at an address, whose word this is

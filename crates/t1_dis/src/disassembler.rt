@@ -240,14 +240,17 @@ fn put_insn(text: &mut Text, addr: u64, word: u32, insn: Insn)
     ensures { text.new ≡ bytes_of (parts_of addr word insn) }
 {
     match insn {
-        Insn::Illegal | Insn::FpOff => put_word(text, word),
+        Insn::Illegal | Insn::FpOff | Insn::ReadHpr { .. } | Insn::WriteHpr { .. } => {
+            put_word(text, word)
+        }
         _ => put_line(text, addr, insn),
     }
 }
 
 /// The text of a word that stands at an address: one statement of the assembler, without a line end.
 ///
-/// A word with no instruction of the profile is `.word` and its eight hexadecimal digits.
+/// A word with no instruction of the profile is `.word` and its eight hexadecimal digits, and so is one that
+/// reads or writes a hyperprivileged register, for which the assembler has no form (this project's profile).
 pub fn disassemble(addr: u64, word: u32) -> ArrayString<96>
     ensures value { result.bytes ≡ text_of addr word }
     ensures tokens { lexemes_in (cut_of result.bytes) ≡ Some (lexemes_of (parts_of addr word (insn_of word))) }

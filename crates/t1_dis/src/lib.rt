@@ -2,7 +2,8 @@
 //!
 //! [`disassemble`] writes a word as the assembler's statement: the mnemonic, and the operands by
 //! the slots of the form that the assembler itself reads them by. A word with no instruction of the
-//! profile is `.word` and its digits. No memory is taken.
+//! profile, or that reads or writes a hyperprivileged register, is `.word` and its digits. No memory is
+//! taken.
 //!
 //! ```text
 //! disassemble(0x100, 0x84006001)    // add %g1, 1, %g2

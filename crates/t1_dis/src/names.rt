@@ -212,7 +212,7 @@ fn halves(insn: Insn) -> (&'static str, &'static str)
     ensures back { length result.1.now ≤ 3 }
 {
     match insn {
-        Insn::Illegal | Insn::FpOff => ("", ""),
+        Insn::Illegal | Insn::FpOff | Insn::ReadHpr { .. } | Insn::WriteHpr { .. } => ("", ""),
         Insn::Stbar => ("stbar", ""),
         Insn::Flushw => ("flushw", ""),
         Insn::Saved => ("saved", ""),

@@ -3,10 +3,12 @@ use Rattle.std.proofs.Common.{◌≡◌, ℕ, ◌<◌, ◌==◌, Bool, true, con
 use Rattle.std.proofs.lemmas.Bool.{cases_eq, eq-eqb, ne_eqb}
 use Rattle.std.proofs.lemmas.List.{append-nil, length-set, get_or-set_same, get_or-set_other}
 use Rattle.std.proofs.lemmas.List.Elements.{filter-append}
-use Rattle.t1_shape.specs.Shapes.Shape.{T1}
+use Rattle.t1_shape.specs.Shapes.{Shape}
+use Rattle.t1_shape.specs.Numbers.{destinations}
 use Rattle.t1_packet.specs.declared.packet.Packet.{Packet}
 use Rattle.t1_packet.specs.Data.{RequestData}
-use Rattle.t1_packet.specs.Ops.{op_dest}
+use Rattle.t1_packet.specs.Ops.{op_addr, op_dest}
+use Rattle.t1_packet.proofs.Caches.{dest_in}
 use Rattle.t1_event.specs.declared.report.Config.{Config}
 use Rattle.t1_elf.specs.declared.object.Image.{Image}
 use Rattle.t1_joint.specs.Start.{Setup}
@@ -27,11 +29,12 @@ use Rattle.t1_core_rule.specs.Laws.{IsWholeCall, IsHistory, history_of}
 use Rattle.t1_core_rule.proofs.Onward.{history_begins, history_goes_on}
 use Rattle.t1_machine.specs.Start.{IsRunnable, setup_of}
 use Rattle.t1_ring.specs.Row.{AreUnused, has_bit, with_more}
+use Rattle.t1_ring.proofs.Sets.{within_room}
 use Rattle.t1_live.specs.Rules.{IsCoreSide, HasSlot, sent_after}
 
 -- ---- at the start
 
-pub core_begins : (w : Setup) (number : ℕ) (core : CoreState) (sent : List (List RequestData)) (received : List Packet) → IsRunnable w → number < w.config.cores → length sent ≡ 5
+pub core_begins : (w : Setup) (number : ℕ) (core : CoreState) (sent : List (List RequestData)) (received : List Packet) → IsRunnable w → number < w.config.cores → length sent ≡ destinations w.config.chip
     → core ≡ new_core w.config number w.image.entry → AreUnused sent → received ≡ [] → IsCoreSide w number core sent received
 core_begins w number core sent received runs within ends new unused none =
     let k : IsCoreSide w number (new_core w.config number w.image.entry) sent [] = record {
@@ -66,34 +69,34 @@ abbrev pub with_requests : List (List RequestData) → ℕ → List RequestData 
 with_requests sent dest [] = sent
 with_requests sent dest (request ∷ requests) = with_more sent dest request
 
-abbrev pub GoTo : ℕ → List RequestData → Type 0
-GoTo dest [] = Unit {0}
-GoTo dest (request ∷ requests) = (op_dest T1 request.op ≡ dest) × (dest < 5) × (requests ≡ [])
+abbrev pub GoTo : Shape → ℕ → List RequestData → Type 0
+GoTo chip dest [] = Unit {0}
+GoTo chip dest (request ∷ requests) = (op_dest chip request.op ≡ dest) × (requests ≡ [])
 
-sent_more : (sent : List (List RequestData)) (d : ℕ) (new requests : List RequestData) → length sent ≡ 5 → GoTo d new → ((e : ℕ) → get_or sent e [] ≡ sent_to T1 e requests)
-    → (e : ℕ) → get_or (with_requests sent d new) e [] ≡ sent_to T1 e (requests ++ new)
-sent_more sent d [] requests five goes each e = each e ∙ ap (λ (rs : List RequestData). sent_to T1 e rs) (sym (append-nil requests))
-sent_more sent d (r ∷ rs) requests five goes each e =
-    let only : sent_to T1 e (requests ++ r ∷ rs) ≡ sent_to T1 e requests ++ cond (op_dest T1 r.op == e) (r ∷ []) [] =
-    ap (λ (l : List RequestData). sent_to T1 e (requests ++ r ∷ l)) goes.2 ∙ filter-append (λ (q : RequestData). op_dest T1 q.op == e) requests (r ∷ []) in
+sent_more : (chip : Shape) (sent : List (List RequestData)) (d : ℕ) (new requests : List RequestData) → length sent ≡ destinations chip → GoTo chip d new → ((e : ℕ) → get_or sent e [] ≡ sent_to chip e requests)
+    → (e : ℕ) → get_or (with_requests sent d new) e [] ≡ sent_to chip e (requests ++ new)
+sent_more chip sent d [] requests all goes each e = each e ∙ ap (λ (rs : List RequestData). sent_to chip e rs) (sym (append-nil requests))
+sent_more chip sent d (r ∷ rs) requests all goes each e =
+    let only : sent_to chip e (requests ++ r ∷ rs) ≡ sent_to chip e requests ++ cond (op_dest chip r.op == e) (r ∷ []) [] =
+    ap (λ (l : List RequestData). sent_to chip e (requests ++ r ∷ l)) goes.1 ∙ filter-append (λ (q : RequestData). op_dest chip q.op == e) requests (r ∷ []) in
     elim (cases_eq e d) [
       | inl s ↦
-          let t : (op_dest T1 r.op == e) ≡ true = eq-eqb (op_dest T1 r.op) e (goes.0 ∙ sym s) in
+          let t : (op_dest chip r.op == e) ≡ true = eq-eqb (op_dest chip r.op) e (goes.0 ∙ sym s) in
           ap (λ (k : ℕ). get_or (with_more sent d r) k []) s
-          ∙ (get_or-set_same sent d (get_or sent d [] ++ r ∷ []) [] (omega (arith, five, goes.1))
+          ∙ (get_or-set_same sent d (get_or sent d [] ++ r ∷ []) [] (let low = dest_in chip (op_addr r.op) in omega (arith, all, low, goes.0))
           ∙ (ap (λ (k : ℕ). get_or sent k [] ++ r ∷ []) (sym s)
           ∙ (ap (λ (l : List RequestData). l ++ r ∷ []) (each e)
-          ∙ (ap (λ (b : Bool). sent_to T1 e requests ++ cond b (r ∷ []) []) (sym t) ∙ sym only))))
+          ∙ (ap (λ (b : Bool). sent_to chip e requests ++ cond b (r ∷ []) []) (sym t) ∙ sym only))))
       | inr ns ↦
-          let t = ne_eqb (op_dest T1 r.op) e (λ q. ns (sym q ∙ goes.0)) in
+          let t = ne_eqb (op_dest chip r.op) e (λ q. ns (sym q ∙ goes.0)) in
           get_or-set_other sent d e (get_or sent d [] ++ r ∷ []) [] ns
-          ∙ (each e ∙ (sym (append-nil (sent_to T1 e requests)) ∙ (ap (λ (b : Bool). sent_to T1 e requests ++ cond b (r ∷ []) []) (sym t) ∙ sym only)))
+          ∙ (each e ∙ (sym (append-nil (sent_to chip e requests)) ∙ (ap (λ (b : Bool). sent_to chip e requests ++ cond b (r ∷ []) []) (sym t) ∙ sym only)))
     ]
 
 -- a call that sends these
 sends : (w : Setup) (number : ℕ) (core next : CoreState) (sent now : List (List RequestData)) (received : List Packet) (call : Call) (d : ℕ) (new : List RequestData) → IsWholeCall call
     → ((requests : List RequestData) → after_call (record { core = core; received = received; sent = requests }) call ≡ record { core = next; received = received; sent = requests ++ new })
-    → GoTo d new → now ≡ with_requests sent d new → IsCoreSide w number core sent received → IsCoreSide w number next now received
+    → GoTo w.config.chip d new → now ≡ with_requests sent d new → IsCoreSide w number core sent received → IsCoreSide w number next now received
 sends w number core next sent now received call d new whole does goes is k =
     let kept : IsCoreSide w number next (with_requests sent d new) received = record {
       runs = k.runs;
@@ -101,11 +104,11 @@ sends w number core next sent now received call d new whole does goes is k =
       ends = long new;
       requests = k.requests ++ new;
       history = subst (λ (h : History). IsHistory w number h) (does k.requests) (history_goes_on w number (record { core = core; received = received; sent = k.requests }) call whole k.history);
-      each = sent_more sent d new k.requests k.ends goes k.each;
+      each = sent_more w.config.chip sent d new k.requests k.ends goes k.each;
     } in
     subst (λ (l : List (List RequestData)). IsCoreSide w number next l received) (sym is) kept
   where
-    long : (new : List RequestData) → length (with_requests sent d new) ≡ 5
+    long : (new : List RequestData) → length (with_requests sent d new) ≡ destinations w.config.chip
     long [] = k.ends
     long (r ∷ rs) = length-set sent d (get_or sent d [] ++ r ∷ []) ∙ k.ends
 
@@ -141,7 +144,7 @@ turn_sends config image number core next sent now received room d r is e f k =
     sends (setup_of config image) number core next sent now received (Turn room) d (r ∷ []) tt
     (λ requests. ap (λ (c : CoreState). record { core = c; received = received; sent = requests ++ turned_by (turn_of core room).did }) (sym is)
     ∙ ap (λ (o : Option Did). record { core = next; received = received; sent = requests ++ turned_by o }) e)
-    (g.meant.dest_is, g.dest_is, refl) f k
+    (g.meant.dest_is, refl) f k
 
 abbrev pub SendsNone : Option Did → Type 0
 SendsNone None = Unit {0}
@@ -171,7 +174,7 @@ drain_sends config image number core next sent now received strand room d r is e
     sends (setup_of config image) number core next sent now received (Drain strand room) d (r ∷ []) tt
     (λ requests. ap (λ (c : CoreState). record { core = c; received = received; sent = requests ++ drained_by (drain_of core strand room).did }) (sym is)
     ∙ ap (λ (o : Drained). record { core = next; received = received; sent = requests ++ drained_by o }) e)
-    (g.meant.dest_is, g.dest_is, refl) f k
+    (g.meant.dest_is, refl) f k
 
 -- what a turn did
 pub turn_does : (config : Config) (image : Image) (number : ℕ) (core next : CoreState) (sent now : List (List RequestData)) (received : List Packet) (room : ℕ) (x : Did)
@@ -185,4 +188,4 @@ turn_does config image number core next sent now received room (did.Sent d r) is
 pub slot_of : (word : ℕ) (rooms : List ℕ) (x : Did) → ((j : ℕ) → has_bit word j ≡ true → 0 < get_or rooms j 0) → HasRing word x → HasSlot rooms x
 slot_of word rooms did.Moved bits ring = tt
 slot_of word rooms (did.Waits wait) bits ring = tt
-slot_of word rooms (did.Sent d r) bits ring = (ring.1, bits d ring.0)
+slot_of word rooms (did.Sent d r) bits ring = (within_room rooms d (bits d ring.0), bits d ring.0)

@@ -4,7 +4,8 @@ use Rattle.std.specs.List.{slice_get}
 use Rattle.std.proofs.lemmas.Bool.{cases_lt}
 use Rattle.std.proofs.lemmas.List.{get_or_past, length-replicate}
 use Rattle.std.proofs.lemmas.Option.{slice_get_within}
-use Rattle.t1_shape.specs.Shapes.Shape.{T1}
+use Rattle.t1_shape.specs.Numbers.{banks}
+use Rattle.t1_shape.proofs.Numbers.{banks_are as few_banks}
 use Rattle.t1_packet.specs.declared.packet.Packet.{Packet}
 use Rattle.t1_packet.specs.declared.served.Served.{Served}
 use Rattle.t1_packet.specs.Data.{RequestData}
@@ -23,7 +24,7 @@ use Rattle.t1_core.specs.Steps.{CoreState}
 use Rattle.t1_core.specs.Ends.{finished_of}
 use Rattle.t1_core_rule.specs.Histories.{History, Call, after_calls}
 use Rattle.t1_core_rule.specs.Laws.{history_of, AreWhole}
-use Rattle.t1_machine.specs.Machine.{MachineState, ring_of, bank_of}
+use Rattle.t1_machine.specs.Machine.{most_dests, MachineState, ring_of, bank_of}
 use Rattle.t1_machine.specs.Start.{setup_of}
 use Rattle.t1_machine.proofs.Starts.{zeros}
 use Rattle.t1_machine_rule.specs.Kept.{ever_served, Kept}
@@ -97,7 +98,7 @@ module _ (config : Config) (image : Image) (cores : List CoreSide) (dests : List
     pub absent : config.cores ≤ c → calls ≡ []
     pub requests : List RequestData
     pub is : (side : CoreSide) → slice_get cores c ≡ Some side → history_of w c calls ≡ record { core = side.core; received = side.received; sent = requests }
-    pub each : (side : CoreSide) → slice_get cores c ≡ Some side → (d : ℕ) → get_or side.sent d [] ≡ sent_to T1 d requests
+    pub each : (side : CoreSide) → slice_get cores c ≡ Some side → (d : ℕ) → get_or side.sent d [] ≡ sent_to config.chip d requests
 
   calls_of : (c : ℕ) → CallsOf c
   calls_of c =
@@ -138,13 +139,13 @@ module _ (config : Config) (image : Image) (cores : List CoreSide) (dests : List
   pub admitted_is : HasAdmitted w p.crossbar
   admitted_is = joins.admitted w setup p f
 
-  pub own_served : (d : ℕ) → IsPrefix (served_at T1 d admitted) (p.destination d).served
-  own_served d = prefix_trans (served_at T1 d admitted) (p.crossbar.received d) (p.destination d).served (admitted_is.admits d) (f.rings.to_crossbar d)
+  pub own_served : (d : ℕ) → IsPrefix (served_at config.chip d admitted) (p.destination d).served
+  own_served d = prefix_trans (served_at config.chip d admitted) (p.crossbar.received d) (p.destination d).served (admitted_is.admits d) (f.rings.to_crossbar d)
 
   -- ---- the machine
 
   pub requests_at : ℕ → List RequestData
-  requests_at i = (f.rings.to_destination (i / 5) (i % 5)).0
+  requests_at i = (f.rings.to_destination (i / most_dests) (i % most_dests)).0
 
   pub served_left : ℕ → List Served
   served_left d = (own_served d).0
@@ -157,44 +158,45 @@ module _ (config : Config) (image : Image) (cores : List CoreSide) (dests : List
 
   abbrev pub machine : MachineState
   machine = record {
+    chip = config.chip;
     cores = cores_of cores;
-    requests = table requests_at 0 (5 * config.cores);
-    served = table served_left 0 5;
+    requests = table requests_at 0 (most_dests * config.cores);
+    served = table served_left 0 most_dests;
     replies = table replies_left 0 config.cores;
-    banks = table bank_at 0 4;
-    tried = replicate 5 0;
+    banks = table bank_at 0 (banks config.chip);
+    tried = replicate most_dests 0;
     xbar = crossbar.xbar;
   }
 
-  ever_is : (d : ℕ) → d < 5 → ever_served T1 admitted machine.served d ≡ (p.destination d).served
+  ever_is : (d : ℕ) → d < most_dests → ever_served config.chip admitted machine.served d ≡ (p.destination d).served
   unfolding served_left
-  ever_is d l = ap (λ (xs : List Served). served_at T1 d admitted ++ xs) (table_first served_left 5 d [] l) ∙ (own_served d).1
+  ever_is d l = ap (λ (xs : List Served). served_at config.chip d admitted ++ xs) (table_first served_left most_dests d [] l) ∙ (own_served d).1
 
-  ring_is : (c d : ℕ) → c < config.cores → d < 5 → (p.destination d).received c ++ ring_of machine.requests c d ≡ (p.core c).sent d
+  ring_is : (c d : ℕ) → c < config.cores → d < most_dests → (p.destination d).received c ++ ring_of machine.requests c d ≡ (p.core c).sent d
   unfolding requests_at
   ring_is c d lc ld =
-      let at : ring_of machine.requests c d ≡ requests_at (5 * c + d) = table_first requests_at (5 * config.cores) (5 * c + d) [] (omega (arith, lc, ld)) in
-      let q : (5 * c + d) / 5 ≡ c = omega (arith, ld) in
-      let r : (5 * c + d) % 5 ≡ d = omega (arith, ld) in
-      ap (λ (l : List RequestData). (p.destination d).received c ++ l) (at ∙ (ap (λ (k : ℕ). (f.rings.to_destination k ((5 * c + d) % 5)).0) q ∙ ap (λ (k : ℕ). (f.rings.to_destination c k).0) r))
+      let at : ring_of machine.requests c d ≡ requests_at (most_dests * c + d) = table_first requests_at (most_dests * config.cores) (most_dests * c + d) [] (omega (arith, lc, ld)) in
+      let q : (most_dests * c + d) / most_dests ≡ c = omega (arith, ld) in
+      let r : (most_dests * c + d) % most_dests ≡ d = omega (arith, ld) in
+      ap (λ (l : List RequestData). (p.destination d).received c ++ l) (at ∙ (ap (λ (k : ℕ). (f.rings.to_destination k ((most_dests * c + d) % most_dests)).0) q ∙ ap (λ (k : ℕ). (f.rings.to_destination c k).0) r))
       ∙ (f.rings.to_destination c d).1
 
-  asks_there : (c d : ℕ) → c < config.cores → d < 5 → requests_of (asked_by c (ever_served T1 admitted machine.served d)) ++ ring_of machine.requests c d ≡ sent_to T1 d (history_of w c (calls c)).sent
+  asks_there : (c d : ℕ) → c < config.cores → d < most_dests → requests_of (asked_by c (ever_served config.chip admitted machine.served d)) ++ ring_of machine.requests c d ≡ sent_to config.chip d (history_of w c (calls c)).sent
   asks_there c d lc ld =
       let x = there c lc in
       let k = calls_of c in
       let sent : (p.core c).sent d ≡ get_or x.0.sent d [] = ap (λ (o : Option CoreSide). (core_part o).sent d) x.1 in
       ap (λ (xs : List Served). requests_of (asked_by c xs) ++ ring_of machine.requests c d) (ever_is d ld)
       ∙ (ap (λ (l : List RequestData). l ++ ring_of machine.requests c d) (served_all c d)
-      ∙ (ring_is c d lc ld ∙ (sent ∙ (k.each x.0 x.1 d ∙ sym (ap (λ (h : History). sent_to T1 d h.sent) (k.is x.0 x.1))))))
+      ∙ (ring_is c d lc ld ∙ (sent ∙ (k.each x.0 x.1 d ∙ sym (ap (λ (h : History). sent_to config.chip d h.sent) (k.is x.0 x.1))))))
 
-  none_sent : (c d : ℕ) → config.cores ≤ c → sent_to T1 d (history_of w c (calls c)).sent ≡ []
+  none_sent : (c d : ℕ) → config.cores ≤ c → sent_to config.chip d (history_of w c (calls c)).sent ≡ []
   unfolding after_calls
-  none_sent c d past = ap (λ (cs : List Call). sent_to T1 d (history_of w c cs).sent) ((calls_of c).absent past)
+  none_sent c d past = ap (λ (cs : List Call). sent_to config.chip d (history_of w c cs).sent) ((calls_of c).absent past)
 
-  asks_past : (c d : ℕ) → config.cores ≤ c → d < 5 → requests_of (asked_by c (ever_served T1 admitted machine.served d)) ++ ring_of machine.requests c d ≡ sent_to T1 d (history_of w c (calls c)).sent
+  asks_past : (c d : ℕ) → config.cores ≤ c → d < most_dests → requests_of (asked_by c (ever_served config.chip admitted machine.served d)) ++ ring_of machine.requests c d ≡ sent_to config.chip d (history_of w c (calls c)).sent
   asks_past c d past ld =
-      let ring : ring_of machine.requests c d ≡ [] = get_or_past machine.requests (5 * c + d) [] (let e = table_length requests_at 0 (5 * config.cores) in omega (arith, e, past)) in
+      let ring : ring_of machine.requests c d ≡ [] = get_or_past machine.requests (most_dests * c + d) [] (let e = table_length requests_at 0 (most_dests * config.cores) in omega (arith, e, past)) in
       let pre = f.rings.to_destination c d in
       let none : (p.destination d).received c ≡ [] = nothing_before ((p.destination d).received c) pre.0 (pre.1 ∙ (f.no_cores c past).sent d) in
       ap (λ (xs : List Served). requests_of (asked_by c xs) ++ ring_of machine.requests c d) (ever_is d ld)
@@ -209,10 +211,10 @@ module _ (config : Config) (image : Image) (cores : List CoreSide) (dests : List
       ap (λ (xs : List Packet). xs ++ get_or machine.replies c []) came
       ∙ (ap (λ (xs : List Packet). (p.core c).received ++ xs) (table_first replies_left config.cores c [] l) ∙ ((f.rings.to_core c).1 ∙ f.crossbar.posts c))
 
-  banks_are : (d : ℕ) → d < 4 → bank_of machine.banks d ≡ bank_after (destination_start w d) (requests_of (ever_served T1 admitted machine.served d))
+  banks_are : (d : ℕ) → d < banks config.chip → bank_of machine.banks d ≡ bank_after (destination_start w d) (requests_of (ever_served config.chip admitted machine.served d))
   unfolding bank_at
   banks_are d l =
-      table_first bank_at 4 d _ l ∙ ap (λ (xs : List Served). bank_after (destination_start w d) (requests_of xs)) (sym (ever_is d (omega (arith, l))))
+      table_first bank_at (banks config.chip) d _ l ∙ ap (λ (xs : List Served). bank_after (destination_start w d) (requests_of xs)) (sym (ever_is d (let few = (few_banks config.chip).1 in omega (arith, l, few))))
 
   pub kept : Kept w machine
   kept =
@@ -220,17 +222,18 @@ module _ (config : Config) (image : Image) (cores : List CoreSide) (dests : List
       let x = crossbar_here w _ _ crossbar a.wired g.crossbar_keeps in
       record {
         parts = record {
+          chip = refl;
           cores = count;
           shaped = record {
             some = (let l = a.runs.some_cores in omega (arith, l, count));
             few = (let l = a.runs.few_cores in omega (arith, l, count));
-            all_requests = table_length requests_at 0 (5 * config.cores) ∙ ap (λ (n : ℕ). 5 * n) (sym count);
-            all_served = table_length served_left 0 5;
+            all_requests = table_length requests_at 0 (most_dests * config.cores) ∙ ap (λ (n : ℕ). most_dests * n) (sym count);
+            all_served = table_length served_left 0 most_dests;
             all_replies = table_length replies_left 0 config.cores ∙ sym count;
-            all_banks = table_length bank_at 0 4;
-            all_tried = length-replicate {A = ℕ} 5 0;
+            all_banks = table_length bank_at 0 (banks config.chip);
+            all_tried = length-replicate {A = ℕ} most_dests 0;
           };
-          tried = λ d. (let z = zeros 5 d in let l = a.runs.some_cores in omega (arith, z, l));
+          tried = λ d. (let z = zeros most_dests d in let l = a.runs.some_cores in omega (arith, z, l));
           posted = x.cores;
           strands = x.strands;
         };
@@ -243,7 +246,7 @@ module _ (config : Config) (image : Image) (cores : List CoreSide) (dests : List
         absent = λ c past. (calls_of c).absent past;
         requests = λ c d ld. elim (cases_lt c config.cores) [ inl l ↦ asks_there c d l ld | inr past ↦ asks_past c d past ld ];
         replies = replies_are;
-        served = λ d ld. subst (λ (xs : List Served). AreServed T1 d (destination_start w d) xs) (sym (ever_is d ld)) (f.destinations d).rule;
+        served = λ d ld. subst (λ (xs : List Served). AreServed config.chip d (destination_start w d) xs) (sym (ever_is d ld)) (f.destinations d).rule;
         banks = banks_are;
       }
 

@@ -9,7 +9,7 @@ use Rattle.t1_live.specs.Sides.{CoreSide, DestinationSide, CrossbarSide, core_id
 use Rattle.t1_live.specs.Wires.{AreWired}
 use Rattle.t1_live.specs.Whole.{AreTied, AreFitting}
 use Rattle.t1_live.specs.Tying.{RequestEndsMeet, RowMeets, RowsMeet, ServedEndsMeet, PacketEndsMeet, RowTied, RowsTied, DestinationStands, ServedTied, PacketsTied}
-use Rattle.t1_live.proofs.Fitting.{id_there, ids_length, fits_any}
+use Rattle.t1_live.proofs.Fitting.{id_there, ids_length, fits}
 
 -- ---- an element of a list, and the list with it put back
 
@@ -72,19 +72,19 @@ module _ (w : Setup) (cores : List CoreSide) (dests : List DestinationSide) (cro
       let b = id_there destination_id dests d dest has in
       let n = wired.core_to c (core_id core) a in
       let m = wired.dest_from d (destination_id dest) b in
-      let five = wired.all_dests in
+      let all = wired.all_dests in
       let lc = within cores c core is in
       let ld = within dests d dest has in
       let xd = ids_length destination_id dests in
-      record { here = omega (arith, n, five, ld, xd); there = omega (arith, m, lc, full); meet = wired.requests c d (core_id core) (destination_id dest) a b }
+      record { here = omega (arith, n, all, ld, xd); there = omega (arith, m, lc, full); meet = wired.requests c d (core_id core) (destination_id dest) a b }
 
   pub served_meet : ServedEndsMeet dests crossbar
   served_meet d dest has =
       let ld = within dests d dest has in
-      let five = wired.all_dests in
+      let all = wired.all_dests in
       let xd = ids_length destination_id dests in
       let from = wired.crossbar_from in
-      (omega (arith, ld, five, xd, from), wired.served d (destination_id dest) (id_there destination_id dests d dest has))
+      (omega (arith, ld, all, xd, from), wired.served d (destination_id dest) (id_there destination_id dests d dest has))
 
   pub packets_meet : length cores ≡ w.config.cores → PacketEndsMeet cores crossbar
   packets_meet full c core is =
@@ -109,7 +109,7 @@ module _ (w : Setup) (cores : List CoreSide) (dests : List DestinationSide) (cro
         core_keeps = core_keeps;
         dest_keeps = dest_keeps;
         crossbar_keeps = keeps;
-        fits = fits_any w cores dests crossbar wired full tied core_keeps dest_keeps keeps (λ d dest has. (served d (within dests d dest has) dest has).1.1);
+        fits = fits w cores dests crossbar wired full tied core_keeps dest_keeps keeps (λ d dest has. (served d (within dests d dest has) dest has).1.1);
       }
 
 -- ---- ends that meet, at an element of a list

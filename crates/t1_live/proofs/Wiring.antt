@@ -2,6 +2,7 @@
 use Rattle.std.proofs.Common.{◌≡◌, ◌+◌, ◌<◌, ℕ, zero, suc, List, [], ◌∷◌, ◌++◌, length, get_or, set, drop, Option, Some, None, refl, sym, ap, subst, ◌∙◌, inl, inr, arith, add-one, length-append}
 use Rattle.std.specs.List.{slice_get}
 use Rattle.std.proofs.lemmas.Option.{slice_get_within}
+use Rattle.t1_shape.specs.Numbers.{destinations}
 use Rattle.t1_joint.specs.Start.{Setup}
 use Rattle.t1_machine_rule.proofs.Lists.{slice_push}
 use Rattle.t1_ring.specs.Ends.{QueueName, Mark, Seat, TxState, RxState}
@@ -43,10 +44,10 @@ module _ {A : Type 0} where
 
 -- ---- one more core
 
-pub wired_more : (w : Setup) (cores dests : List Id) (crossbar core : Id) → AreWired w cores dests crossbar → core.setup ≡ w → core.number ≡ length cores → length core.to ≡ 5
+pub wired_more : (w : Setup) (cores dests : List Id) (crossbar core : Id) → AreWired w cores dests crossbar → core.setup ≡ w → core.number ≡ length cores → length core.to ≡ destinations w.config.chip
     → ((d : ℕ) (dest : Id) → slice_get dests d ≡ Some dest → slice_get core.to d ≡ slice_get dest.from (length cores)) → slice_get crossbar.to (length cores) ≡ slice_get core.from 0
     → AreWired w (cores ++ core ∷ []) dests crossbar
-wired_more w cores dests crossbar core k setup number five sends meets = record {
+wired_more w cores dests crossbar core k setup number all sends meets = record {
   core_is = λ c x is. elim (slice_push cores core c x is) [
     | inl p ↦ k.core_is c x p
     | inr p ↦ subst (λ (y : Id). (y.setup ≡ w) × (y.number ≡ c)) p.1 (setup, number ∙ sym p.0)
@@ -58,7 +59,7 @@ wired_more w cores dests crossbar core k setup number five sends meets = record 
   crossbar_from = k.crossbar_from;
   core_to = λ c x is. elim (slice_push cores core c x is) [
     | inl p ↦ k.core_to c x p
-    | inr p ↦ subst (λ (y : Id). length y.to ≡ 5) p.1 five
+    | inr p ↦ subst (λ (y : Id). length y.to ≡ destinations w.config.chip) p.1 all
   ];
   dest_from = k.dest_from;
   requests = λ c d x y is has.
@@ -83,13 +84,13 @@ sends_to w dests queues marks to core serves low is d dest has =
 
 -- ---- the wires before the first core
 
-pub wired_first : (w : Setup) (dests : List Id) (crossbar : Id) (queues : List QueueName) (marks : List Mark) → length dests ≡ 5 → crossbar.setup ≡ w → crossbar.from ≡ marks → length marks ≡ 5
+pub wired_first : (w : Setup) (dests : List Id) (crossbar : Id) (queues : List QueueName) (marks : List Mark) → length dests ≡ destinations w.config.chip → crossbar.setup ≡ w → crossbar.from ≡ marks → length marks ≡ destinations w.config.chip
     → length crossbar.to ≡ w.config.cores → AreServing w dests queues marks → AreWired w [] dests crossbar
-wired_first w dests crossbar queues marks five setup from long to serves = record {
+wired_first w dests crossbar queues marks all setup from long to serves = record {
   core_is = λ c x is. absurd (none c x is);
   dest_is = λ d x is. let g = serves d x is in (ap (λ (y : Id). y.setup) g.is, ap (λ (y : Id). y.number) g.is);
   crossbar_is = setup;
-  all_dests = five;
+  all_dests = all;
   crossbar_to = to;
   crossbar_from = ap (λ (l : List Mark). length l) from ∙ long;
   core_to = λ c x is. absurd (none c x is);

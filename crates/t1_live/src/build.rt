@@ -1,6 +1,5 @@
 //! The agents at their start.
 ghost use Rattle.std.specs.Prelude.{◌≡◌, [], length, IfOk};
-ghost use Rattle.t1_shape.specs.Shapes.Shape.{T1};
 ghost use Rattle.t1_shape.specs.Numbers.{destinations};
 ghost use Rattle.t1_machine.specs.Start.{IsRunnable, setup_of};
 ghost use Rattle.t1_ring.specs.Row.{sent_by, received_by, tx_marks, rx_marks, AreUnused};
@@ -14,7 +13,6 @@ use crate::core_agent::CoreAgent;
 use crate::crossbar_agent::CrossbarAgent;
 use crate::destination_agent::DestinationAgent;
 use crate::hubs::{Hub, lanes, queue_for};
-use crate::numbers::DESTINATIONS;
 use std::alloc::{AllocError, Global};
 use t1_elf::Image;
 use t1_event::Config;
@@ -29,15 +27,16 @@ pub(crate) fn destinations(
     ends: Vec<Tx<Served>>,
 ) -> Result<(Vec<DestinationAgent>, Vec<Hub>), AllocError>
     requires runs { IsRunnable (setup_of config.now image.now) }
-    requires five { length ends.items ≡ destinations T1 }
+    requires all { length ends.items ≡ destinations config.now.chip }
     requires unused { AreUnused (sent_by ends.items) }
     ensures served { IfOk result (λ r. ServedNothing r.0.items) }
-    ensures len { IfOk result (λ r. (length r.0.items ≡ destinations T1) × (length r.1.items ≡ destinations T1)) }
+    ensures len { IfOk result (λ r. (length r.0.items ≡ destinations config.now.chip) × (length r.1.items ≡ destinations config.now.chip)) }
     ensures hubs { IfOk result (λ r. r.1.items ≡ hubs_at 0 0 config.now.cores (queues_of r.1.items)) }
     ensures serving { IfOk result (λ r. AreServing (setup_of config.now image.now) (ids destination_id r.0.items) (queues_of r.1.items) (tx_marks ends.items)) }
 {
-    let mut dests = Vec::with_capacity(alloc, DESTINATIONS)?;
-    let mut hubs = Vec::with_capacity(alloc, DESTINATIONS)?;
+    let count = t1_shape::destinations(config.chip);
+    let mut dests = Vec::with_capacity(alloc, count as usize)?;
+    let mut hubs = Vec::with_capacity(alloc, count as usize)?;
     let mut dest = 0u8;
     for end in ends {
         let (next, queue, seat) = queue_for(alloc, config.cores)?;
@@ -62,7 +61,7 @@ pub(crate) fn cores(
     requires count { length ends.items ≡ config.now.cores }
     requires unused { AreUnused (received_by ends.items) }
     requires marks { crossbar.now.to ≡ rx_marks ends.items }
-    requires five { length hubs.items ≡ destinations T1 }
+    requires all { length hubs.items ≡ destinations config.now.chip }
     requires hubs { hubs.items ≡ hubs_at 0 0 config.now.cores (queues_of hubs.items) }
     requires serving { AreServing (setup_of config.now image.now) (ids destination_id dests.now.items) (queues_of hubs.items) crossbar.now.from }
     requires wired { AreWired (setup_of config.now image.now) [] (ids destination_id dests.now.items) (crossbar_id crossbar.now) }

@@ -1,6 +1,5 @@
 //! The agent of a core.
 ghost use Rattle.std.specs.Prelude.{◌≡◌, ◌<◌, ◌∷◌, [], length, IfOk, true};
-ghost use Rattle.t1_shape.specs.Shapes.Shape.{T1};
 ghost use Rattle.t1_shape.specs.Numbers.{destinations};
 ghost use Rattle.t1_core.specs.Ends.{traces_of};
 ghost use Rattle.t1_core_rule.specs.Histories.{Take};
@@ -13,7 +12,7 @@ ghost use Rattle.t1_live.specs.Sides.{core_id, is_core_over};
 ghost use Rattle.t1_live.specs.Starts.{CoreStarts};
 
 use crate::lane::{Lane, retry_all, rooms, send_at};
-use crate::numbers::ALL_CROSSBARS;
+use crate::numbers::crossbars_of;
 use std::alloc::{AllocError, Global};
 use std::marker::Model;
 use std::snapshot::Snapshot;
@@ -70,7 +69,6 @@ fn is_whole(packet: &Packet)
 
 /// Sends what a strand asked for, if anything, by a lane by which nothing is kept.
 fn send<R: Wait>(rt: &R, lanes: &mut Vec<Lane>, did: Did)
-    requires lanes { length lanes.old.items ≡ destinations T1 }
     requires ring { HasSlot (rooms_of lanes.old.items) did }
     requires core { AreOfSender did (tx_marks lanes.old.items) }
     ensures marks { tx_marks lanes.new.items ≡ tx_marks lanes.old.items }
@@ -95,7 +93,7 @@ impl CoreAgent {
     ) -> Result<CoreAgent, AllocError>
         requires runs { IsRunnable (setup_of config.now image.now) }
         requires number { number < config.now.cores }
-        requires lanes { length lanes.items ≡ destinations T1 }
+        requires lanes { length lanes.items ≡ destinations config.now.chip }
         requires unused { AreUnused (sent_by lanes.items) }
         requires seats { AreOf number (tx_marks lanes.items) }
         requires none { packets.received ≡ [] }
@@ -136,7 +134,7 @@ impl CoreAgent {
     fn drain<R: Wait>(&mut self, rt: &R, strand: u8) -> bool
         ensures { core_id self.new ≡ core_id self.old }
     {
-        let room = rooms(&self.lanes) as u16;
+        let room = rooms(&self.lanes);
         match self.core.drain(strand, room) {
             Drained::Sent { dest, request } => {
                 send_at(rt, &mut self.lanes, dest as usize, request);
@@ -152,7 +150,7 @@ impl CoreAgent {
     fn exec<R: Wait>(&mut self, rt: &R) -> bool
         ensures { core_id self.new ≡ core_id self.old }
     {
-        let room = rooms(&self.lanes) as u16;
+        let room = rooms(&self.lanes);
         let Some(did) = self.core.turn(room) else {
             return false;
         };
@@ -201,7 +199,7 @@ impl Agent for CoreAgent {
         }
         if self.core.finished() {
             flags.say_done(self.number);
-            if flags.have_ended(ALL_CROSSBARS) {
+            if flags.have_ended(crossbars_of(self.config.chip)) {
                 return Turned::Ended;
             }
         }

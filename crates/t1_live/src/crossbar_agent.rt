@@ -1,6 +1,5 @@
 //! The agent of the crossbar.
 ghost use Rattle.std.specs.Prelude.{◌≡◌, ◌<◌, ◌≤◌, [], length, true, IfOk};
-ghost use Rattle.t1_shape.specs.Shapes.Shape.{T1};
 ghost use Rattle.t1_shape.specs.Numbers.{destinations};
 ghost use Rattle.t1_machine.specs.Machine.{posts_pushed};
 ghost use Rattle.t1_machine.specs.Start.{IsRunnable, setup_of};
@@ -9,7 +8,7 @@ ghost use Rattle.t1_live.specs.Posts.{CanPost};
 ghost use Rattle.t1_live.specs.Sides.{crossbar_id, is_over};
 ghost use Rattle.t1_live.specs.Starts.{AdmittedNothing};
 
-use crate::numbers::{ALL_DESTINATIONS, CROSSBAR};
+use crate::numbers::{crossbar_of, destinations_of};
 use std::alloc::{AllocError, Global};
 use std::marker::Model;
 use std::snapshot::Snapshot;
@@ -77,16 +76,17 @@ impl CrossbarAgent {
         packets: Vec<Tx<Packet>>,
     ) -> Result<CrossbarAgent, AllocError>
         requires runs { IsRunnable (setup_of config.now image.now) }
-        requires from { length served.items ≡ destinations T1 }
+        requires from { length served.items ≡ destinations config.now.chip }
         requires to { length packets.items ≡ config.now.cores }
         requires unused { AreUnused (received_by served.items) × AreUnused (sent_by packets.items) }
         ensures none { IfOk result (λ a. AdmittedNothing a) }
-        ensures id { IfOk result (λ a. crossbar_id a ≡ record { setup = setup_of config.now image.now; number = 13; to = tx_marks packets.items; from = rx_marks served.items }) }
+        ensures id { IfOk result (λ a. crossbar_id a ≡ record { setup = setup_of config.now image.now; number = 8 + destinations config.now.chip; to = tx_marks packets.items; from = rx_marks served.items }) }
     {
         let most = config.cores as usize * (config.strands as usize * (2 * config.budget as usize));
         let xbar = Xbar::new(alloc, config, most)?;
-        let mut held = Vec::with_capacity(alloc, 5)?;
-        for _ in 0..5usize {
+        let count = t1_shape::destinations(config.chip);
+        let mut held = Vec::with_capacity(alloc, count as usize)?;
+        for _ in 0..count {
             held.push_reserved(None);
         }
         Ok(CrossbarAgent {
@@ -100,16 +100,16 @@ impl CrossbarAgent {
     }
 
     /// Takes the next access that a destination served, where none is held of it: whether it did.
-    fn fetch(&mut self, dest: usize) -> bool
-        requires { dest < 5 }
+    fn fetch(&mut self, dest: u8) -> bool
+        requires { dest < destinations self.old.setup.config.chip }
         ensures { crossbar_id self.new ≡ crossbar_id self.old }
     {
-        if self.held[dest].is_some() {
+        if self.held[dest as usize].is_some() {
             return false;
         }
-        match pop_at(&mut self.served, dest) {
+        match pop_at(&mut self.served, dest as usize) {
             Some(served) => {
-                self.held[dest] = Some(served);
+                self.held[dest as usize] = Some(served);
                 true
             }
             None => false,
@@ -117,11 +117,11 @@ impl CrossbarAgent {
     }
 
     /// Admits the access that is held of a destination, if it can: whether it did.
-    fn admit(&mut self, dest: usize) -> Result<bool, AllocError>
-        requires { dest < 5 }
+    fn admit(&mut self, dest: u8) -> Result<bool, AllocError>
+        requires { dest < destinations self.old.setup.config.chip }
         ensures { crossbar_id self.new ≡ crossbar_id self.old }
     {
-        let Some(served) = &self.held[dest] else {
+        let Some(served) = &self.held[dest as usize] else {
             return Ok(false);
         };
         if self.xbar.len() == u32::MAX {
@@ -129,10 +129,10 @@ impl CrossbarAgent {
         }
         self.xbar.reserve()?;
         let rooms = rooms(&mut self.packets);
-        match self.xbar.admit(dest as u8, served, rooms) {
+        match self.xbar.admit(dest, served, rooms) {
             Admitted::Done { posts, .. } => {
                 post_all(&mut self.packets, posts);
-                self.held[dest] = None;
+                self.held[dest as usize] = None;
                 Ok(true)
             }
             Admitted::NotSeen { .. } => Ok(false),
@@ -140,10 +140,10 @@ impl CrossbarAgent {
         }
     }
 
-    fn holds(&self, dest: usize) -> bool
-        requires { dest < 5 }
+    fn holds(&self, dest: u8) -> bool
+        requires { dest < destinations self.now.setup.config.chip }
     {
-        self.held[dest].is_some()
+        self.held[dest as usize].is_some()
     }
 
     /// The records in the log.
@@ -170,7 +170,7 @@ impl Agent for CrossbarAgent {
     ghost over = { is_over };
 
     fn number(&self) -> u8 {
-        CROSSBAR
+        crossbar_of(self.config.chip)
     }
 
     /// Tries to admit an access of each destination. The crossbar ends where all destinations had ended
@@ -179,10 +179,11 @@ impl Agent for CrossbarAgent {
         ensures same { crossbar_id self.new ≡ crossbar_id self.old }
         ensures over { result ≡ Turned.Ended → is_over self.new ≡ true }
     {
-        let ended = flags.have_ended(ALL_DESTINATIONS);
+        let chip = self.config.chip;
+        let ended = flags.have_ended(destinations_of(chip));
         let mut worked = false;
         let mut holds = false;
-        for dest in 0..5usize {
+        for dest in 0..t1_shape::destinations(chip) {
             if self.fetch(dest) {
                 worked = true;
             }
@@ -196,7 +197,7 @@ impl Agent for CrossbarAgent {
             }
         }
         if ended && !worked && !holds {
-            flags.say_ended(CROSSBAR);
+            flags.say_ended(crossbar_of(chip));
             return Turned::Ended;
         }
         if worked { Turned::Worked } else { Turned::Idle }

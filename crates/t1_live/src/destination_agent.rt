@@ -1,7 +1,6 @@
 //! The agent of a destination.
 ghost use Rattle.std.specs.Prelude.{◌≡◌, ◌+◌, ◌<◌, ◌∷◌, [], true, IfOk};
 ghost use Rattle.std.specs.Arc.{arc_value};
-ghost use Rattle.t1_shape.specs.Shapes.Shape.{T1};
 ghost use Rattle.t1_shape.specs.Numbers.{destinations};
 ghost use Rattle.t1_machine.specs.Start.{IsRunnable, setup_of};
 ghost use Rattle.t1_live.specs.Lanes.{seats_of};
@@ -83,10 +82,10 @@ fn bank_of(
     dest: u8,
 ) -> Result<Option<Bank>, AllocError>
     requires runs { IsRunnable (setup_of config.now image.now) }
-    requires dest { dest < destinations T1 }
+    requires dest { dest < destinations config.now.chip }
     ensures { IfOk result (λ bank. IsBank (setup_of config.now image.now) dest [] bank) }
 {
-    if dest == 4 {
+    if dest == t1_shape::banks(config.chip) {
         return Ok(None);
     }
     let bank = Bank::new(alloc, dest, config, image.ram.as_slice())?;
@@ -105,7 +104,7 @@ impl DestinationAgent {
         served: Tx<Served>,
     ) -> Result<DestinationAgent, AllocError>
         requires runs { IsRunnable (setup_of config.now image.now) }
-        requires dest { dest < destinations T1 }
+        requires dest { dest < destinations config.now.chip }
         requires queue { seat.queue ≡ (arc_value queue).name }
         requires unused { seat.taken ≡ [] }
         requires none { served.sent ≡ [] }

@@ -6,7 +6,6 @@ ghost use Rattle.t1_ring.specs.Row.{sent_by, tx_marks, AreUnused};
 ghost use Rattle.t1_live.specs.Lanes.{HubState, hub_at, hubs_at, queues_of, seats_at, AreOf};
 
 use crate::lane::Lane;
-use crate::numbers::DESTINATIONS;
 use std::alloc::{AllocError, Global};
 use std::marker::Model;
 use std::sync::Arc;
@@ -74,14 +73,13 @@ pub(crate) fn lanes(
     core: u8,
     cores: u8,
 ) -> Result<Vec<Lane>, AllocError>
-    requires five { length hubs.old.items ≡ 5 }
     requires next { hubs.old.items ≡ hubs_at 0 core cores (queues_of hubs.old.items) }
     requires within { core < cores }
     ensures queues { IfOk result (λ lanes. hubs.new.items ≡ hubs_at 0 (core + 1) cores (queues_of hubs.old.items)) }
     ensures marks { IfOk result (λ lanes. tx_marks lanes.items ≡ seats_at core (queues_of hubs.old.items)) }
     ensures unused { IfOk result (λ lanes. AreUnused (sent_by lanes.items)) }
 {
-    let mut lanes = Vec::with_capacity(alloc, DESTINATIONS)?;
+    let mut lanes = Vec::with_capacity(alloc, hubs.len())?;
     for d in 0..hubs.len() {
         let lane = hubs[d].lane(core, cores)?;
         lanes.push_reserved(lane);

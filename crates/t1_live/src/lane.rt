@@ -83,7 +83,7 @@ impl Lane {
     }
 
     /// 1 where nothing is kept, else 0.
-    fn room(&self) -> u8
+    fn room(&self) -> u16
         ensures { (result ≡ self.now.room) × (result < 2) }
     {
         match self.kept {
@@ -129,13 +129,13 @@ pub(crate) fn retry_all<R: Wait>(rt: &R, lanes: &mut Vec<Lane>) -> bool
 }
 
 /// A bit for each lane, set exactly where nothing is kept.
-pub(crate) fn rooms(lanes: &Vec<Lane>) -> u8
-    requires { vec_len lanes.now ≤ 8 }
+pub(crate) fn rooms(lanes: &Vec<Lane>) -> u16
+    requires { vec_len lanes.now ≤ 16 }
     ensures room { (j : ℕ) → has_bit result j ≡ true → 0 < get_or (rooms_of lanes.now.items) j 0 }
     ensures free { (j : ℕ) → 0 < get_or (rooms_of lanes.now.items) j 0 → has_bit result j ≡ true }
 {
     let count = lanes.len();
-    let mut bits = 0u8;
+    let mut bits = 0u16;
     for k in 0..count {
         bits = 2 * bits + lanes[count - 1 - k].room();
     }

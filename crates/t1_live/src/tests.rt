@@ -10,10 +10,12 @@ use std::thread;
 use std::thread::Threads;
 use t1_elf::{Image, Listed};
 use t1_event::{Config, Report};
-use t1_num::put_be;
+use t1_num::{ChipKind, put_be};
 
 /// Two cores of one strand.
 const TWO: Config = Config {
+    chip: ChipKind::T1,
+    hyper: false,
     cores: 2,
     strands: 1,
     ram: 65536,

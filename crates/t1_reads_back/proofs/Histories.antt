@@ -1,12 +1,14 @@
 -- The report of a joint history is well formed.
-use Rattle.std.proofs.Common.{◌≡◌, ℕ, zero, suc, ◌+◌, ◌*◌, ◌/◌, ◌%◌, ◌^◌, ◌<◌, ◌≤◌, ◌⊎◌, inl, inr, Bool, true, false, cond, List, [], ◌∷◌, length, get_or, Option, Some, None, refl, ap, sym, ◌∙◌, subst, arith}
+use Rattle.std.proofs.Common.{◌≡◌, ℕ, zero, suc, ◌+◌, ◌*◌, ◌/◌, ◌%◌, ◌^◌, ◌<◌, ◌≤◌, ◌⊎◌, inl, inr, Bool, true, false, if◌then◌else◌, List, [], ◌∷◌, length, get_or, Option, Some, None, refl, ap, sym, ◌∙◌, subst, arith}
 use Rattle.std.specs.Prelude.{All, IsTrue}
 use Rattle.std.specs.List.{slice_get}
+use Rattle.std.proofs.lemmas.Bool.{and_parts}
 use Rattle.std.proofs.lemmas.Option.{slice_get-get_or}
 use Rattle.t1_num.specs.Memory.{IsSize}
 use Rattle.t1_shape.specs.Shapes.{Shape}
-use Rattle.t1_shape.specs.Shapes.Shape.{T1}
-use Rattle.t1_shape.specs.Numbers.{banks, io_bridge}
+use Rattle.t1_num.specs.declared.chip.ChipKind.TheVariants.{T1}
+use Rattle.t1_shape.specs.Numbers.{banks, io_bridge, bank_at}
+use Rattle.t1_shape.proofs.Numbers.{bank_below}
 use Rattle.t1_space.specs.Places.{is_io}
 use Rattle.t1_packet.specs.declared.cache.Cache.{Cache}
 use Rattle.t1_packet.specs.declared.cache.Cache.TheVariants.{Dcache, Icache}
@@ -38,6 +40,7 @@ use Rattle.t1_joint.specs.Start.{Setup, start_in, bounds_in}
 use Rattle.t1_joint.specs.Shaped.{IsShaped, LiesRightly}
 use Rattle.t1_joint.specs.JointHistory.{IsJointHistory, IsPostTime, IsBankCommit, IsBridgeCommit, shown_at, run_of}
 use Rattle.t1_joint.proofs.Shapes.{items_shaped}
+use Rattle.t1_log.proofs.Firsts.{first_is}
 use Rattle.t1_take.specs.Limits.{is_in_limits}
 use Rattle.t1_take.specs.Items.{IsSizeOf, IsReached, IsValueOf, IsPlaceOf, IsGoodItem, IsGoodEnd, IsGoodTrace}
 use Rattle.t1_take.specs.WellFormed.{IsGoodKill, IsGoodWay, IsGoodEvicted, IsGoodCommit, IsGoodPlace, IsWellFormed}
@@ -129,14 +132,14 @@ end_good (ending.Fault number) l = omega (arith, l)
 -- ---- commits
 
 dest_is : (shape : Shape) (addr : ℕ) → (dest_of shape addr < banks shape) ⊎ (dest_of shape addr ≡ io_bridge shape)
-dest_is T1 addr = by (is_io addr)
+dest_is shape addr = by (is_io addr)
   where
-    by : (b : Bool) → (cond b 4 (addr / 64 % 4) < 4) ⊎ (cond b 4 (addr / 64 % 4) ≡ 4)
+    by : (t : Bool) → ((if t then io_bridge shape else bank_at shape addr) < banks shape) ⊎ ((if t then io_bridge shape else bank_at shape addr) ≡ io_bridge shape)
     by true = inr refl
-    by false = inl (omega arith)
+    by false = inl (bank_below shape addr)
 
-four : (shape : Shape) → banks shape ≡ 4
-four T1 = refl
+four : (shape : Shape) → shape ≡ T1 → banks shape ≡ 4
+four shape first = ap banks first
 
 evicted_good : (o : Option ℕ) → IsEvictedAddress o → IsGoodEvicted o
 evicted_good None l = tt
@@ -149,7 +152,7 @@ post_within strands image log core n packet e = by (slice_get log n) refl
     by None o = let clash : ◌≡◌ {A = Option Packet} None (Some packet) = ap (post_by strands (memory_at image log n) n core) (sym o) ∙ e in cc
     by (Some c) o = within log n c o
 
-module _ (w : Setup) (traces : List Trace) (log : List Commit) (j : IsJointHistory w traces log) (short : length log < 2 ^ 32) where
+module _ (w : Setup) (traces : List Trace) (log : List Commit) (j : IsJointHistory w traces log) (first : w.config.chip ≡ T1) (short : length log < 2 ^ 32) where
   -- ---- places
 
   time_low : (core t : ℕ) → IsPostTime (run_of w traces log) core t → t < 2 ^ 32
@@ -197,7 +200,7 @@ module _ (w : Setup) (traces : List Trace) (log : List Commit) (j : IsJointHisto
   bank_way n c b = by c.op refl
     where
       filled : (cache : Cache) (line : ℕ) → filled_line cache c.op ≡ Some line → IsGoodWay c.way
-      filled cache line e = (let f = b.fills cache line e in let l = f.2 in subst IsGoodWay (sym f.1) (omega (arith, l, ways_are w.shape cache)))
+      filled cache line e = (let f = b.fills cache line e in let l = f.2 in subst IsGoodWay (sym f.1) (omega (arith, l, ways_are w.config.chip cache first)))
 
       unfilled : ((cache : Cache) → filled_line cache c.op ≡ None) → IsGoodWay c.way
       unfilled none = subst IsGoodWay (sym (b.fills_nothing none)) tt
@@ -211,8 +214,8 @@ module _ (w : Setup) (traces : List Trace) (log : List Commit) (j : IsJointHisto
 
   bank_kills : (n : ℕ) (c : Commit) → IsBankCommit (run_of w traces log) n c → All (IsGoodKill w.config.cores) c.kills
   bank_kills n c b =
-      let good = kills_good w.shape (shown_at (run_of w traces log) n) (core_of w.config.strands c) c.evicted c.op w.config.cores w.config.cores (omega arith)
-      (λ core cache. let l = length-directory w.shape w.config.strands log core cache n in omega (arith, l)) in
+      let good = kills_good w.config.chip first (shown_at (run_of w traces log) n) (core_of w.config.strands c) c.evicted c.op w.config.cores w.config.cores (omega arith)
+      (λ core cache. let l = length-directory w.config.chip w.config.strands log core cache n in omega (arith, l)) in
       all_from (IsGoodKill w.config.cores) c.kills (λ k kill e. good_at w.config.cores _ k kill good (ap (λ (ks : List KillData). slice_get ks k) (sym b.kills) ∙ e))
 
   bridge_kills : (c : Commit) → IsBridgeCommit c → All (IsGoodKill w.config.cores) c.kills
@@ -225,7 +228,7 @@ module _ (w : Setup) (traces : List Trace) (log : List Commit) (j : IsJointHisto
       let named = j.naming.names n c is in
       let x = named.0 in
       let r = j.banks.record_is n c x is named.2 in
-      let d = dest_is w.shape x.item.addr in
+      let d = dest_is w.config.chip x.item.addr in
       record {
         item = x.item;
         names = subst (λ (s : ℕ). slice_get (get_or (items_of traces) s []) c.item ≡ Some x.item) (sym named.2.strand)
@@ -233,7 +236,7 @@ module _ (w : Setup) (traces : List Trace) (log : List Commit) (j : IsJointHisto
         placed = named.2.how_is;
         op = r.op;
         old = r.old;
-        dest = elim d [ inl l ↦ omega (arith, l, r.dest, four w.shape) | inr e ↦ omega (arith, e, r.dest, four w.shape) ];
+        dest = elim d [ inl l ↦ omega (arith, l, r.dest, four w.config.chip first) | inr e ↦ omega (arith, e, r.dest, four w.config.chip first) ];
         way = elim d [
           | inl l ↦ bank_way n c (j.banks.bank n c is (omega (arith, l, r.dest)))
           | inr e ↦ subst IsGoodWay (sym (j.banks.bridge n c is (r.dest ∙ e)).way) tt
@@ -276,4 +279,4 @@ module _ (w : Setup) (traces : List Trace) (log : List Commit) (j : IsJointHisto
       }
 
 pub histories_good : JointHistoriesAreWellFormed
-histories_good w traces log order console j limits words short listing printable = report_good w traces log j short order console limits words listing printable
+histories_good w traces log order console j limits words short listing printable = report_good w traces log j (first_is w.config (and_parts _ _ limits).0).chip short order console limits words listing printable

@@ -1,10 +1,11 @@
--- The kills of a commit are of cores, sets and ways that there are, and the way of a fill is of its cache.
+-- The kills of a commit of OpenSPARC T1 are of cores, sets and ways that there are, and the way of a fill is of
+-- its cache.
 use Rattle.std.proofs.Common.{◌≡◌, ℕ, zero, suc, ◌+◌, ◌<◌, ◌≤◌, ◌==◌, inl, inr, Bool, List, [], ◌∷◌, ◌++◌, length, set, Option, Some, None, refl, ◌∙◌, subst, arith}
 use Rattle.std.specs.List.{slice_get}
 use Rattle.std.proofs.lemmas.Bool.{cases_Bool}
 use Rattle.std.proofs.lemmas.List.{length-set, length-replicate}
 use Rattle.t1_shape.specs.Shapes.{Shape}
-use Rattle.t1_shape.specs.Shapes.Shape.{T1}
+use Rattle.t1_num.specs.declared.chip.ChipKind.TheVariants.{T1, T2}
 use Rattle.t1_shape.specs.Slots.{Layout, slots_in, first_slot, with_fill}
 use Rattle.t1_packet.specs.declared.cache.Cache.{Cache}
 use Rattle.t1_packet.specs.declared.cache.Cache.TheVariants.{Dcache, Icache}
@@ -68,37 +69,39 @@ good_at cores [] n k a e = let clash : ◌≡◌ {A = Option KillData} None (Som
 good_at cores (x ∷ ks) zero k a e = let same : x ≡ k = cc (e) in subst (λ (v : KillData). IsGoodKill cores v) same a.0
 good_at cores (x ∷ ks) (suc n) k a e = good_at cores ks n k a.1 e
 
-sets_are : (shape : Shape) (cache : Cache) → (layout shape cache).sets ≡ 128
-sets_are T1 Dcache = refl
-sets_are T1 Icache = refl
+sets_are : (shape : Shape) (cache : Cache) → shape ≡ T1 → (layout shape cache).sets ≡ 128
+sets_are T1 Dcache first = refl
+sets_are T1 Icache first = refl
+sets_are T2 cache first = absurd (let bad : ◌≡◌ {A = Shape} T2 T1 = first in cc)
 
-pub ways_are : (shape : Shape) (cache : Cache) → (layout shape cache).ways ≡ 4
-ways_are T1 Dcache = refl
-ways_are T1 Icache = refl
+pub ways_are : (shape : Shape) (cache : Cache) → shape ≡ T1 → (layout shape cache).ways ≡ 4
+ways_are T1 Dcache first = refl
+ways_are T1 Icache first = refl
+ways_are T2 cache first = absurd (let bad : ◌≡◌ {A = Shape} T2 T1 = first in cc)
 
-here_good : (shape : Shape) (cores core : ℕ) (cache : Cache) (own : Bool) (evicted : Option ℕ) (op : Op) (tags : List (Option ℕ)) (from : ℕ) → core < cores → from + length tags ≤ 512
+here_good : (shape : Shape) → shape ≡ T1 → (cores core : ℕ) (cache : Cache) (own : Bool) (evicted : Option ℕ) (op : Op) (tags : List (Option ℕ)) (from : ℕ) → core < cores → from + length tags ≤ 512
     → AllGood cores (kills_here shape core cache own evicted op tags from)
-here_good shape cores core cache own evicted op [] from lc l = tt
-here_good shape cores core cache own evicted op (t ∷ tags) from lc l =
-    let rest = here_good shape cores core cache own evicted op tags (suc from) lc (omega (arith, l)) in
+here_good shape first cores core cache own evicted op [] from lc l = tt
+here_good shape first cores core cache own evicted op (t ∷ tags) from lc l =
+    let rest = here_good shape first cores core cache own evicted op tags (suc from) lc (omega (arith, l)) in
     let s = set_below shape cache from (omega (arith, l)) in
     let w = way_below shape cache from in
     elim (cases_Bool (is_doomed cache own evicted op t)) [
-      | inl e ↦ rw e (record { core = lc; set = omega (arith, s, sets_are shape cache); way = omega (arith, w, ways_are shape cache) }, rest)
+      | inl e ↦ rw e (record { core = lc; set = omega (arith, s, sets_are shape cache first); way = omega (arith, w, ways_are shape cache first) }, rest)
       | inr e ↦ rw e rest
     ]
 
-pub kills_good : (shape : Shape) (shown : ℕ → Cache → List (Option ℕ)) (asker : ℕ) (evicted : Option ℕ) (op : Op) (cores k : ℕ) → k ≤ cores → ((c : ℕ) (cache : Cache) → length (shown c cache) ≤ 512)
+pub kills_good : (shape : Shape) → shape ≡ T1 → (shown : ℕ → Cache → List (Option ℕ)) (asker : ℕ) (evicted : Option ℕ) (op : Op) (cores k : ℕ) → k ≤ cores → ((c : ℕ) (cache : Cache) → length (shown c cache) ≤ 512)
     → AllGood cores (kills_below shape shown asker evicted op k)
-kills_good shape shown asker evicted op cores zero le len = tt
-kills_good shape shown asker evicted op cores (suc k) le len =
+kills_good shape first shown asker evicted op cores zero le len = tt
+kills_good shape first shown asker evicted op cores (suc k) le len =
     let before = kills_below shape shown asker evicted op k in
     let ds = kills_here shape k Dcache (asker == k) evicted op (shown k Dcache) 0 in
     let is = kills_here shape k Icache (asker == k) evicted op (shown k Icache) 0 in
     good_append cores (before ++ ds) is
-    (good_append cores before ds (kills_good shape shown asker evicted op cores k (omega (arith, le)) len)
-    (here_good shape cores k Dcache (asker == k) evicted op (shown k Dcache) 0 (omega (arith, le)) (let l = len k Dcache in omega (arith, l))))
-    (here_good shape cores k Icache (asker == k) evicted op (shown k Icache) 0 (omega (arith, le)) (let l = len k Icache in omega (arith, l)))
+    (good_append cores before ds (kills_good shape first shown asker evicted op cores k (omega (arith, le)) len)
+    (here_good shape first cores k Dcache (asker == k) evicted op (shown k Dcache) 0 (omega (arith, le)) (let l = len k Dcache in omega (arith, l))))
+    (here_good shape first cores k Icache (asker == k) evicted op (shown k Icache) 0 (omega (arith, le)) (let l = len k Icache in omega (arith, l)))
 
 -- ---- ways
 

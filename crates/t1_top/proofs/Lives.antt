@@ -1,11 +1,15 @@
 -- The report of agents that came back.
-use Rattle.std.proofs.Common.{◌≡◌, ◌^◌, ◌<◌, List, refl, ap, sym, subst}
+use Rattle.std.proofs.Common.{◌≡◌, ◌∙◌, ◌^◌, ◌<◌, List, refl, ap, sym, subst}
 use Rattle.std.specs.Prelude.{All, IsTrue}
+use Rattle.std.proofs.lemmas.Bool.{and_parts}
 use Rattle.t1_event.specs.declared.report.Report.{Report}
 use Rattle.t1_event.specs.declared.trace.Trace.{Trace}
 use Rattle.t1_event.specs.Items.{items_of}
 use Rattle.t1_event.specs.Order.{IsListing, ObeysTso}
 use Rattle.t1_event.specs.Printable.{IsPrintableReport}
+use Rattle.t1_event.specs.declared.report.Config.{Config}
+use Rattle.t1_log.specs.Lines.{is_first}
+use Rattle.t1_log.specs.Log.{HasLog}
 use Rattle.t1_joint.specs.Start.{Setup}
 use Rattle.t1_machine_rule.specs.Parts.{traces_in}
 use Rattle.t1_machine_rule.specs.Words.{AreWords}
@@ -65,9 +69,12 @@ live_report w agents report same limits low e =
     subst Of same (own_report agents report (subst Limits (sym same) limits) (subst Low (sym same) low) e)
 
 -- it has a text
-pub has_text : (w : Setup) (agents : AgentsState) (report : Report) → agents.setup ≡ w → w.image.entry < 2 ^ 40 → Reported agents report
-    → LiveReports agents report.order → IsPrintableReport report
-has_text w agents report same low reported obeys =
+pub has_text : (w : Setup) (agents : AgentsState) (report : Report) → agents.setup ≡ w → IsTrue (is_in_limits w.config) → w.image.entry < 2 ^ 40 → Reported agents report
+    → LiveReports agents report.order → HasLog report
+has_text w agents report same limits low reported obeys =
     let Low : Setup → Type 0 = λ v. v.image.entry < 2 ^ 40 in
-    let P : Report → Type 0 = λ r. IsPrintableReport r in
-    subst P (sym reported.is) (obeys.printable (subst Low (sym same) low))
+    let First : Config → Type 0 = λ config. IsTrue (is_first config) in
+    record {
+      printable = subst (λ (r : Report). IsPrintableReport r) (sym reported.is) (obeys.printable (subst Low (sym same) low));
+      first = subst First (sym (ap (λ (r : Report). r.config) reported.is ∙ ap (λ (v : Setup). v.config) same)) (and_parts _ _ limits).0;
+    }

@@ -2,9 +2,8 @@
 ghost use Rattle.std.specs.Prelude.{◌≡◌, ◌≢◌, ◌<◌, ◌^◌, IfOk, IsTrue};
 ghost use Rattle.std.specs.Io.KnownBytes.{IsAtEnd};
 ghost use Rattle.t1_io.specs.Causes.{Rose};
-ghost use Rattle.t1_event.specs.Printable.{IsPrintableReport};
 ghost use Rattle.t1_machine.specs.Start.{IsRunnable, setup_of};
-ghost use Rattle.t1_log.specs.Log.{text_of};
+ghost use Rattle.t1_log.specs.Log.{HasLog, text_of};
 ghost use Rattle.t1_cli.specs.Serial.{HasText, HasNoText};
 ghost use Rattle.t1_cli.specs.Statuses.{status_of_verdict};
 ghost use Rattle.t1_cli.specs.Verdict.{OfInput, Judged, JudgedInput};
@@ -34,7 +33,7 @@ fn run_agents<R: Threads + Wait + Sync, G: Gate + Sync>(
     requires runnable { IsRunnable (setup_of config.now image) }
     requires entry { image.entry < 2 ^ 40 }
     ensures report { IfOk result (IsLiveReportOf (setup_of config.now image)) }
-    ensures text { IfOk result IsPrintableReport }
+    ensures text { IfOk result HasLog }
 {
     let agents = Agents::build(alloc, config, image)?;
     let ended = run_live(rt, alloc, agents, gate)?;

@@ -4,6 +4,7 @@ use super::{CALM, STORE_AND_LOAD, file_of, is_told, serve, words_of};
 use crate::{Command, read_words};
 use std::test::Fail;
 use t1_event::Config;
+use t1_num::ChipKind;
 
 #[test]
 fn other_words_are_a_usage_fault(rt: HostRuntime) -> Result<(), Fail> {
@@ -41,6 +42,8 @@ fn other_words_are_a_usage_fault(rt: HostRuntime) -> Result<(), Fail> {
 #[test]
 fn words_ask_for_commands(rt: HostRuntime) -> Result<(), Fail> {
     let whole = Config {
+        chip: ChipKind::T1,
+        hyper: false,
         cores: 8,
         strands: 4,
         ram: 16_777_216,

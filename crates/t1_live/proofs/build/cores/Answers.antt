@@ -2,6 +2,7 @@ use Rattle.std.proofs.Common.{◌≡◌, ◌∷◌, ◌∙◌, ◌+◌, ◌<◌,
 use Rattle.std.specs.List.{slice_get}
 use Rattle.std.specs.Vec.Iter.{into_iter_items}
 use Rattle.std.proofs.lemmas.Grind.{common_steps}
+use Rattle.t1_shape.specs.Numbers.{destinations}
 use Rattle.t1_machine.specs.Start.{setup_of}
 use Rattle.t1_ring.specs.Ends.{QueueName, Mark}
 use Rattle.t1_ring.proofs.Sets.{tx_marks_length}
@@ -42,7 +43,7 @@ loop-end-preserved c =
     let low : length cores < c.args.config.now.cores = grind (arith, common_steps) in
     let to : one.to ≡ seats_at (length (ids core_id cores)) (queues_of all) =
     ap (λ (z : Id). z.to) id ∙ (c.in_ok-lanes.ensures.marks ∙ (ap (λ (qs : List QueueName). seats_at number qs) i.queues ∙ ap (λ n. seats_at n (queues_of all)) (i.number_is ∙ sym all_cores))) in
-    let five : length one.to ≡ 5 = ap length to ∙ (seats_length (length (ids core_id cores)) (queues_of all) ∙ (queues_length all ∙ c.requires.five)) in
+    let full : length one.to ≡ destinations c.args.config.now.chip = ap length to ∙ (seats_length (length (ids core_id cores)) (queues_of all) ∙ (queues_length all ∙ c.requires.all)) in
     let same : queues_of now ≡ queues_of hubs = ap queues_of c.in_ok-lanes.ensures.queues ∙ hub_queues 0 (number + 1) c.args.config.now.cores (queues_of hubs) in
     let meets : slice_get c.args.crossbar.now.to (length (ids core_id cores)) ≡ slice_get one.from 0 =
     ap (λ n. slice_get c.args.crossbar.now.to n) all_cores ∙ (ap (λ (l : List Mark). slice_get l (length cores)) c.requires.marks
@@ -54,11 +55,11 @@ loop-end-preserved c =
       count = grind (arith, common_steps);
       rest = ap (λ n. drop n c.args.ends.items) long ∙ next_of c.args.ends.items (length cores) c.in-Some.end (into_iter_items c.next.new.self) rest;
       queues = same ∙ i.queues;
-      five = sym (queues_length now) ∙ (ap length same ∙ (queues_length hubs ∙ i.five));
+      all = sym (queues_length now) ∙ (ap length same ∙ (queues_length hubs ∙ i.all));
       hubs_are = c.in_ok-lanes.ensures.queues ∙ ap (λ (qs : List QueueName). hubs_at 0 (number + 1) c.args.config.now.cores qs) (sym same);
       wired = subst (λ (l : List Id). AreWired w l dests (crossbar_id c.args.crossbar.now)) (sym (ap (λ l. ids core_id l) pushed ∙ ids_snoc core_id cores one))
           (wired_more w (ids core_id cores) dests (crossbar_id c.args.crossbar.now) (core_id one) i.wired
-          (ap (λ (z : Id). z.setup) id) (ap (λ (z : Id). z.number) id ∙ (i.number_is ∙ sym all_cores)) five
+          (ap (λ (z : Id). z.setup) id) (ap (λ (z : Id). z.number) id ∙ (i.number_is ∙ sym all_cores)) full
           (sends_to w dests (queues_of all) c.args.crossbar.now.from one.to (length (ids core_id cores)) c.requires.serving (omega (arith, low, all_cores)) to) meets);
     }
 
@@ -68,7 +69,7 @@ lanes-requires-clause-within c = let i = c.loop-end.invariant in grind (arith, c
 pub new-requires-clause-lanes : goal.new-requires-clause-lanes
 new-requires-clause-lanes c =
     let i = c.loop-end.invariant in
-    sym (tx_marks_length c.in_ok-lanes.lanes.items) ∙ (ap length c.in_ok-lanes.ensures.marks ∙ (seats_length c.loop-end.number (queues_of c.loop-end.hubs.items) ∙ (queues_length c.loop-end.hubs.items ∙ i.five)))
+    sym (tx_marks_length c.in_ok-lanes.lanes.items) ∙ (ap length c.in_ok-lanes.ensures.marks ∙ (seats_length c.loop-end.number (queues_of c.loop-end.hubs.items) ∙ (queues_length c.loop-end.hubs.items ∙ i.all)))
 
 pub new-requires-clause-seats : goal.new-requires-clause-seats
 new-requires-clause-seats c =
@@ -82,7 +83,7 @@ loop-end-init c = record {
   count = grind (arith, common_steps);
   rest = search rules;
   queues = refl;
-  five = c.requires.five;
+  all = c.requires.all;
   hubs_are = c.requires.hubs;
   wired = subst (λ cs. AreWired (setup_of c.args.config.now c.args.image.now) (ids core_id cs) (ids destination_id c.args.dests.now.items) (crossbar_id c.args.crossbar.now)) (sym c.in_ok-cores.ensures.items) c.requires.wired;
 }

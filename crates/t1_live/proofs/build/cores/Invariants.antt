@@ -1,5 +1,6 @@
 use Rattle.std.proofs.Common.{◌≡◌, ◌+◌, ◌≤◌, length, drop, vec_capacity}
 use Rattle.std.specs.Vec.Iter.{into_iter_items, into_iter_len}
+use Rattle.t1_shape.specs.Numbers.{destinations}
 use Rattle.t1_machine.specs.Start.{setup_of}
 use Rattle.t1_crew.specs.Slots.{ids}
 use Rattle.t1_live.specs.Sides.{core_id, destination_id, crossbar_id}
@@ -16,7 +17,7 @@ invariant-loop-end l = record {
   count : length l.cores.items + into_iter_len l.end-iterator ≡ l.config.cores;
   rest : drop (length l.cores.items) l.fn.ends.items ≡ into_iter_items l.end-iterator;
   queues : queues_of l.hubs.items ≡ queues_of l.fn.hubs.items;
-  five : length l.hubs.items ≡ 5;
+  all : length l.hubs.items ≡ destinations l.config.chip;
   hubs_are : l.hubs.items ≡ hubs_at 0 l.number l.config.cores (queues_of l.hubs.items);
   wired : AreWired (setup_of l.config l.image) (ids core_id l.cores.items) (ids destination_id l.dests.items) (crossbar_id l.crossbar);
 }

@@ -14,7 +14,7 @@ loop-d-init c =
     record {
       room = grind (arith, common_steps);
       len = grind (arith, common_steps);
-      count = let five = c.requires.five in grind (arith, common_steps);
+      count = grind (arith, common_steps);
       hubs_are = c.requires.next;
       marks = ap (λ (l : List (TxState RequestData)). tx_marks l) none ∙ sym (seats_none c.args.core (queues_of c.args.hubs.now.items));
       unused = λ at. ap (λ (l : List (TxState RequestData)). get_or (sent_by l) at []) none;
@@ -25,9 +25,9 @@ lane-requires-clause-next c =
     let i = c.loop-d.invariant in
     let all : List QueueName = queues_of c.args.hubs.now.items in
     let hub = c.index_mut.result.now in
-    let low : c.loop-d.d < 5 = grind (arith, common_steps) in
+    let low : c.loop-d.d < length c.args.hubs.now.items = grind (arith, common_steps) in
     let n = queues_length c.args.hubs.now.items in
-    (hub_here c.loop-d.d c.args.core c.args.cores all hub (omega (arith, low, n, c.requires.five)) (c.index_mut.ensures.value ∙ ap (λ (l : List HubState). get_or l c.loop-d.d hub) i.hubs_are)).0
+    (hub_here c.loop-d.d c.args.core c.args.cores all hub (omega (arith, low, n)) (c.index_mut.ensures.value ∙ ap (λ (l : List HubState). get_or l c.loop-d.d hub) i.hubs_are)).0
 
 pub loop-d-preserved : goal.loop-d-preserved
 loop-d-preserved c =
@@ -37,9 +37,9 @@ loop-d-preserved c =
     let cores = c.args.cores in
     let all : List QueueName = queues_of c.args.hubs.now.items in
     let hub = c.index_mut.result.now in
-    let low : d < 5 = grind (arith, common_steps) in
+    let low : d < length c.args.hubs.now.items = grind (arith, common_steps) in
     let n = queues_length c.args.hubs.now.items in
-    let here = (hub_here d core cores all hub (omega (arith, low, n, c.requires.five)) (c.index_mut.ensures.value ∙ ap (λ (l : List HubState). get_or l d hub) i.hubs_are)).1 in
+    let here = (hub_here d core cores all hub (omega (arith, low, n)) (c.index_mut.ensures.value ∙ ap (λ (l : List HubState). get_or l d hub) i.hubs_are)).1 in
     let pushed = c.push_reserved.ensures.items in
     let lane = c.in_ok-lane.ensures.lane in
     record {
@@ -57,14 +57,14 @@ pub returns-clause-queues : goal.returns-clause-queues
 returns-clause-queues c =
     let i = c.loop-d.invariant in
     let all : List QueueName = queues_of c.args.hubs.now.items in
-    let last : c.loop-d.d ≡ 5 = grind (arith, common_steps) in
+    let last : c.loop-d.d ≡ length c.args.hubs.now.items = grind (arith, common_steps) in
     let n = queues_length c.args.hubs.now.items in
-    i.hubs_are ∙ (ap (λ k. hubs_at k c.args.core c.args.cores all) {x = c.loop-d.d} {y = length all} (omega (arith, last, n, c.requires.five)) ∙ hubs_whole c.args.core c.args.cores all)
+    i.hubs_are ∙ (ap (λ k. hubs_at k c.args.core c.args.cores all) {x = c.loop-d.d} {y = length all} (omega (arith, last, n)) ∙ hubs_whole c.args.core c.args.cores all)
 
 pub returns-clause-marks : goal.returns-clause-marks
 returns-clause-marks c =
     let i = c.loop-d.invariant in
     let all : List QueueName = queues_of c.args.hubs.now.items in
-    let last : c.loop-d.d ≡ 5 = grind (arith, common_steps) in
+    let last : c.loop-d.d ≡ length c.args.hubs.now.items = grind (arith, common_steps) in
     let n = queues_length c.args.hubs.now.items in
-    i.marks ∙ (ap (λ k. seats_upto k c.args.core all) {x = c.loop-d.d} {y = length all} (omega (arith, last, n, c.requires.five)) ∙ seats_whole c.args.core all)
+    i.marks ∙ (ap (λ k. seats_upto k c.args.core all) {x = c.loop-d.d} {y = length all} (omega (arith, last, n)) ∙ seats_whole c.args.core all)

@@ -19,4 +19,4 @@ returns-clause-report g c =
 pub returns-clause-text : goal.returns-clause-text
 returns-clause-text g c =
     has_text (setup_of c.args.config.now c.args.image) c.in_ok-ended.ended c.into_report.result (c.in_ok-ended.ensures.setup ∙ c.in_ok-agents.ensures.setup)
-    c.requires.entry c.into_report.ensures.report c.into_report.ensures.obeys
+    c.requires.limits c.requires.entry c.into_report.ensures.report c.into_report.ensures.obeys

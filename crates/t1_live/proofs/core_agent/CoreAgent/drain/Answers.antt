@@ -1,19 +1,21 @@
 use Rattle.std.proofs.Common.{List, sym, subst, arith}
+use Rattle.t1_shape.proofs.Numbers.{banks_are}
 use Rattle.t1_ring.specs.Ends.{Mark}
-use Rattle.t1_ring.specs.Row.{sent_by, tx_marks}
-use Rattle.t1_ring.proofs.Sets.{sents_length}
+use Rattle.t1_ring.specs.Row.{sent_by, rooms_of, tx_marks}
+use Rattle.t1_ring.proofs.Sets.{sents_length, rooms_length, within_room}
 use Rattle.t1_live.specs.Lanes.{AreOf}
 use Rattle.t1_live.proofs.Cores.{drain_sends, drain_core}
 use Rattle.t1_live.proofs.core_agent.CoreAgent.drain.Goals as goal
 
 pub rooms-room-requires : goal.rooms-room-requires
-rooms-room-requires g c = let e = sents_length c.self.inside.lanes.items in let five = c.self.invariant.0.ends in omega (arith, e, five)
+rooms-room-requires g c = let e = sents_length c.self.inside.lanes.items in let all = c.self.invariant.0.ends in let few = (banks_are c.self.inside.config.chip).1 in omega (arith, e, all, few)
 
 pub send_at-requires-clause-within : goal.send_at-requires-clause-within
 send_at-requires-clause-within g c =
-    let e = sents_length c.self.inside.lanes.items in
-    let five = c.self.invariant.0.ends in
-    omega (arith, e, five, c.in-Sent.ensures.ring.1)
+    let lanes = c.self.inside.lanes.items in
+    let l = rooms_length lanes in
+    let w = within_room (rooms_of lanes) c.in-Sent.dest (c.rooms-room.ensures.room c.in-Sent.dest c.in-Sent.ensures.ring.0) in
+    omega (arith, l, w)
 
 pub send_at-requires-clause-core : goal.send_at-requires-clause-core
 send_at-requires-clause-core g c =

@@ -1,5 +1,6 @@
 use Rattle.std.proofs.Common.{◌∙◌, List, Some, ap, sym, subst, arith}
 use Rattle.t1_core.specs.declared.answers.Did.{Did}
+use Rattle.t1_shape.proofs.Numbers.{banks_are}
 use Rattle.t1_ring.specs.Ends.{Mark}
 use Rattle.t1_ring.specs.Row.{sent_by, tx_marks}
 use Rattle.t1_ring.proofs.Sets.{sents_length}
@@ -9,10 +10,7 @@ use Rattle.t1_live.proofs.Lanes.{of_sender}
 use Rattle.t1_live.proofs.core_agent.CoreAgent.exec.Goals as goal
 
 pub rooms-room-requires : goal.rooms-room-requires
-rooms-room-requires g c = let e = sents_length c.self.inside.lanes.items in let five = c.self.invariant.0.ends in omega (arith, e, five)
-
-pub send-requires-clause-lanes : goal.send-requires-clause-lanes
-send-requires-clause-lanes g c = let e = sents_length c.self.inside.lanes.items in let five = c.self.invariant.0.ends in omega (arith, e, five)
+rooms-room-requires g c = let e = sents_length c.self.inside.lanes.items in let all = c.self.invariant.0.ends in let few = (banks_are c.self.inside.config.chip).1 in omega (arith, e, all, few)
 
 pub send-requires-clause-ring : goal.send-requires-clause-ring
 send-requires-clause-ring g c = slot_of c.rooms-room.result _ c.in-Some.did c.rooms-room.ensures.room c.in-Some.ensures.ring

@@ -7,7 +7,7 @@ use Rattle.t1_live.proofs.Crossings.{crossbar_fetches, none_is}
 use Rattle.t1_live.proofs.crossbar_agent.CrossbarAgent.fetch.Goals as goal
 
 pub pop_at-requires : goal.pop_at-requires
-pop_at-requires c = let five = c.self.invariant.all_received in let e = gots_length c.self.inside.served.items in omega (arith, five, e, c.requires)
+pop_at-requires c = let all = c.self.invariant.all_received in let e = gots_length c.self.inside.served.items in omega (arith, all, e, c.requires)
 
 pub invariant_of-self : goal.invariant_of-self
 invariant_of-self c =

@@ -11,5 +11,5 @@ pub invariant_of-result : goal.invariant_of-result
 invariant_of-result c =
     subst (λ (image : Image). IsCrossbarSide (setup_of c.args.config.now image) c.in_ok-xbar.xbar c.loop.held.items (received_by c.args.served.items) (sent_by c.args.packets.items)) (sym c.of.ensures)
     (crossbar_begins (setup_of c.args.config.now c.args.image.now) c.in_ok-xbar.xbar _ c.loop.held.items _ _ c.requires.runs c.in_ok-xbar.ensures
-    (let l = c.loop.invariant.len in let f = c.loop-test.false in let e = c.loop.auto.counter-end in omega (arith, l, f, e)) c.loop.invariant.none
+    (let l = c.loop.invariant.len in let f = c.loop-test.false in let e = c.loop.auto.counter-end in omega (arith, l, f, e, c.destinations-count.ensures.value)) c.loop.invariant.none
     (gots_length c.args.served.items ∙ c.requires.from) c.requires.unused.0 (sents_length c.args.packets.items ∙ c.requires.to) c.requires.unused.1)
