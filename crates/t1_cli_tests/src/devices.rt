@@ -60,13 +60,6 @@ const RUNS: &[Row<'static>] = &[
         out: Out::Is(""),
         ..WHOLE
     },
-    // A guest is written, and nothing is read.
-    Row {
-        words: "gen --seed 0 --size 2",
-        plan: Plan { read: 1, ..CALM },
-        out: Out::Size(136),
-        ..WHOLE
-    },
 ];
 
 /// A row of the words of a file, the second of whose lines cannot be written.

@@ -2,7 +2,7 @@
 
 use crate::serve::assert_rows;
 use std::test::Fail;
-use t1_guests::{Change, File, Input, Out, ROW, Row, STORE_AND_LOAD};
+use t1_guests::{CALM, Change, File, Input, Out, Plan, ROW, Row, STORE_AND_LOAD};
 
 const RUN: &str = "run --cores 1 --strands 1 --ram 65536 --budget 10";
 
@@ -130,9 +130,10 @@ const GUESTS: &[Row<'static>] = &[
         out: Out::Lines("c 14 0 0 26 1 0000001000 0.d.0.0\nc 15 0 0 28 0 0000001100 0.d.16.0"),
         ..THIRTEEN_LINES
     },
-    // A guest of two instructions that is generated, and the summary of its run.
+    // A guest of two instructions that is generated, for which nothing is read, and the summary of its run.
     Row {
         words: "gen --seed 0 --size 2",
+        plan: Plan { read: 1, ..CALM },
         out: Out::File(File {
             words: "21000020 8143e002 c60c21f0 b5802000",
             at: 0x1000,

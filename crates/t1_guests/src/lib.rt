@@ -12,4 +12,4 @@ pub use files::{Change, File, STORE_AND_LOAD, UNCHANGED, file_of};
 pub use logs::{last_got, last_put};
 pub use rows::{CALM, Input, Out, Plan, ROW, Row, has_line};
 pub use seen::Seen;
-pub use texts::{counter, halt, message, store_membar_load, stored_log, two_readers};
+pub use texts::{counter, message, store_membar_load, stored_log, two_readers};
