@@ -17,8 +17,6 @@ mod failure;
 mod first;
 mod layout;
 mod second;
-#[cfg(test)]
-mod tests;
 
 pub use assembler::assemble;
 pub use error::{AsmError, AsmKind};

@@ -14,10 +14,6 @@ mod access;
 mod bank;
 mod copies;
 mod laws;
-#[cfg(test)]
-mod tables;
-#[cfg(test)]
-mod tests;
 
 pub use bank::Bank;
 pub use laws::{banks_are_lawful, bytes_are_memory, refusals_are_quiet};

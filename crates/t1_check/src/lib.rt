@@ -18,8 +18,6 @@
 #![tactic(auto)]
 
 mod axioms;
-#[cfg(test)]
-mod checked;
 mod crossing;
 mod judging;
 mod kinds;
@@ -28,8 +26,6 @@ mod listing;
 mod own;
 mod rules;
 mod table;
-#[cfg(test)]
-mod tests;
 mod value;
 mod verdict;
 

@@ -3,10 +3,6 @@
 
 mod chip;
 mod report;
-#[cfg(test)]
-mod schedule_tests;
 mod slot_set;
-#[cfg(test)]
-mod tests;
 
 pub use chip::{Chip, Step};

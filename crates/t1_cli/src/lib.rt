@@ -16,8 +16,6 @@ pub mod refusal;
 pub mod report;
 pub mod serial;
 pub mod status;
-#[cfg(test)]
-mod tests;
 mod texts;
 pub mod verdict;
 mod words;

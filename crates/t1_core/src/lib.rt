@@ -24,10 +24,6 @@ mod replies;
 mod rings;
 pub mod sparc_core;
 mod steps;
-#[cfg(test)]
-mod take_tests;
-#[cfg(test)]
-mod tests;
 pub mod thread;
 
 pub use answers::{Did, Drained, Wait};

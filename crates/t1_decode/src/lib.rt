@@ -8,8 +8,6 @@
 mod fields;
 mod forms;
 pub mod tables;
-#[cfg(test)]
-mod tests;
 mod words;
 
 pub use words::decode;

@@ -17,8 +17,6 @@ pub mod disassembler;
 pub mod laws;
 mod names;
 mod operands;
-#[cfg(test)]
-mod tests;
 mod text;
 
 pub use disassembler::disassemble;

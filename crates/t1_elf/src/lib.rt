@@ -25,8 +25,6 @@ pub mod listed;
 pub mod object;
 mod reader;
 mod table;
-#[cfg(test)]
-mod tests;
 mod writer;
 
 pub use bytes::Bytes;

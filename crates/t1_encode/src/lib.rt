@@ -7,8 +7,6 @@
 mod fields;
 pub mod laws;
 mod numbers;
-#[cfg(test)]
-mod tests;
 mod words;
 
 pub use words::encode;

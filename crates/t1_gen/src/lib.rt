@@ -6,7 +6,5 @@
 
 mod drawn;
 mod guest;
-#[cfg(test)]
-mod tests;
 
 pub use guest::{MOST_SIZE, generate};

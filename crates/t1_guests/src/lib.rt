@@ -1,8 +1,15 @@
-//! Guests that the tests of several crates run, as assembly texts, and what their logs show.
+//! What the tests of several crates share: guests as assembly texts, what their logs show, and rows of
+//! commands with what comes of them.
 #![tactic(auto)]
 
+mod files;
 mod logs;
+mod rows;
+mod seen;
 mod texts;
 
+pub use files::{Change, File, STORE_AND_LOAD, UNCHANGED, file_of};
 pub use logs::{last_got, last_put};
-pub use texts::{counter, halt, message, store_membar_load, stored_log, two_readers};
+pub use rows::{CALM, Input, Out, Plan, ROW, Row, has_line};
+pub use seen::Seen;
+pub use texts::{counter, message, store_membar_load, stored_log, two_readers};

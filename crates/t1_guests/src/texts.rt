@@ -1,15 +1,5 @@
 //! The assembly texts.
 
-/// A halt.
-pub fn halt() -> &'static str {
-    HALT
-}
-
-const HALT: &str = "\
-        .org 0x100
-        wr %g0, 0, %asr26
-";
-
 /// The log of one strand that stores 5 to 200 hex, loads it and halts.
 pub fn stored_log() -> &'static str {
     STORED_LOG

@@ -20,8 +20,6 @@ pub mod sinks;
 pub mod sources;
 mod store;
 pub mod streams;
-#[cfg(test)]
-mod tests;
 mod unread;
 pub mod whole;
 

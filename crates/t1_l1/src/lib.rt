@@ -9,8 +9,6 @@
 pub mod cache;
 pub mod laws;
 pub mod line;
-#[cfg(test)]
-mod tests;
 pub mod ways;
 
 pub use cache::L1;

@@ -13,7 +13,5 @@
 #![tactic(auto)]
 
 mod array;
-#[cfg(test)]
-mod tests;
 
 pub use array::BankArray;

@@ -18,8 +18,6 @@ pub mod bytes;
 pub mod laws;
 pub mod lexer;
 pub mod pieces;
-#[cfg(test)]
-mod tests;
 pub mod token;
 
 pub use lexer::{lex, lex_into};

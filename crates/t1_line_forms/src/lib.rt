@@ -20,7 +20,5 @@ mod heads;
 pub mod laws;
 mod line;
 mod tables;
-#[cfg(test)]
-mod tests;
 
 pub use line::{Line, has_form};

@@ -19,8 +19,6 @@ mod lane;
 pub mod laws;
 mod numbers;
 mod report;
-#[cfg(test)]
-mod tests;
 mod ties;
 
 pub use agents::{Agents, run_live};

@@ -16,8 +16,6 @@ mod console;
 mod line;
 mod lines;
 mod log;
-#[cfg(test)]
-mod tests;
 mod texts;
 
 pub use brief::print_brief;

@@ -8,8 +8,6 @@ mod rooms;
 pub mod schedule;
 pub mod slot;
 mod start;
-#[cfg(test)]
-mod tests;
 pub mod woken;
 
 pub use machine::Machine;

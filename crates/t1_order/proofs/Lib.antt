@@ -1,4 +1,3 @@
-pub mod Data
 pub mod Joint
 pub mod Listing
 pub mod Places

@@ -1,4 +1,3 @@
-pub mod Checked
 pub mod Heads
 pub mod Joint
 pub mod Merge

@@ -6,13 +6,9 @@
 //! tree, so the work is linear in the items times the logarithm of the strands, and no memory is taken.
 #![tactic(auto)]
 
-#[cfg(test)]
-mod checked;
 mod heads;
 pub mod laws;
 mod merge;
 mod next;
-#[cfg(test)]
-mod tests;
 
 pub use merge::order_of;

@@ -15,8 +15,6 @@ pub mod packet;
 pub mod post;
 pub mod request;
 pub mod served;
-#[cfg(test)]
-mod tests;
 
 pub use cache::Cache;
 pub use destination::dest;

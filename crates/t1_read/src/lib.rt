@@ -23,8 +23,6 @@ mod lines;
 mod reader;
 mod strands;
 mod tail;
-#[cfg(test)]
-mod tests;
 
 pub use error::{LogError, LogKind};
 pub use reader::read_log;

@@ -14,8 +14,6 @@ pub mod ends;
 mod queue;
 pub mod row;
 mod rule;
-#[cfg(test)]
-mod tests;
 
 pub use ends::{Rx, Tx, port, tie};
 pub use queue::{CoreSeat, DestSeat, RequestQueue, request_queue};

@@ -11,8 +11,6 @@
 pub mod buffer;
 pub mod entry;
 pub mod looks;
-#[cfg(test)]
-mod tests;
 
 pub use buffer::StoreBuffer;
 pub use entry::{Entry, Look};

@@ -8,7 +8,5 @@
 
 pub mod laws;
 pub mod select;
-#[cfg(test)]
-mod tests;
 
 pub use select::Select;

@@ -26,8 +26,6 @@ mod cursor;
 mod head;
 mod item;
 mod lists;
-#[cfg(test)]
-mod tests;
 
 pub use commit::take_commit;
 pub use cursor::Cursor;

@@ -5,8 +5,6 @@
 #![tactic(auto)]
 
 mod live;
-#[cfg(test)]
-mod tests;
 mod top;
 
 pub use top::t1_top;

@@ -9,5 +9,5 @@ mod values;
 mod words;
 
 pub use texts::words_and_texts;
-pub use values::{lines, operations, windows};
+pub use values::{operations, windows};
 pub use words::more_words;

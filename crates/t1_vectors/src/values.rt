@@ -33,18 +33,3 @@ const WINDOWS: &str = "\
 7 0 = trap 080 0
 0 1 = trap 0c0 7
 ";
-
-/// Assembly lines, and after ` = ` the word that each makes at any place.
-pub fn lines() -> &'static str {
-    LINES
-}
-
-const LINES: &str = "\
-add %g1, 1, %g2 = 84006001
-sethi %hi(0x12345400), %g1 = 03048d15
-retl = 81c3e008
-save %sp, -96, %sp = 9de3bfa0
-membar #StoreLoad = 8143e002
-ta 1 = 91d02001
-wr %g0, 0, %asr26 = b5802000
-";

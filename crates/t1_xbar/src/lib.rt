@@ -8,8 +8,6 @@
 pub mod admitted;
 pub mod posts;
 mod record;
-#[cfg(test)]
-mod tests;
 pub mod xbar;
 
 pub use admitted::{Admitted, Post};
