@@ -4,7 +4,6 @@ use crate::serve::{assert_rows, words_of};
 use std::test::Fail;
 use t1_cli::{Command, read_words};
 use t1_event::Config;
-use t1_num::ChipKind;
 use t1_guests::{Input, Out, ROW, Row, STORE_AND_LOAD};
 use t1_num::ChipKind;
 
@@ -52,8 +51,6 @@ fn other_words_are_a_usage_fault(rt: HostRuntime) -> Result<(), Fail> {
 
 /// The limits and the shape of a run without options.
 const WHOLE: Config = Config {
-    chip: ChipKind::T1,
-    hyper: false,
     chip: ChipKind::T1,
     hyper: false,
     cores: 8,
