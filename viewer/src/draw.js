@@ -117,7 +117,7 @@ function drawTails(view, g, shown, near) {
     if (it.kind !== STORE) continue;
     const made = madeRow(view, it);
     if (made >= k || made > shown.to) continue;
-    const x = laneX(view, it.s) - (big ? radius(view) + 5 + 4 * (it.nth % 4) : 0), y = rowY(view, made) - view.rowH / 2, c = colourOf(it.addr, near && !near.has(it) ? 0.25 : 0.8);
+    const x = laneX(view, it.s) - (big ? radius(view) + (laneWidth(view) > 60 ? 13 : 3) + 4 * (it.nth % 4) : 0), y = rowY(view, made) - view.rowH / 2, c = colourOf(it.addr, near && !near.has(it) ? 0.25 : 0.8);
     g.setLineDash([3, 2]); stroke(g, c, big ? 2 : 1, [x, y], [x, rowY(view, k)]); g.setLineDash([]);
     if (big) stroke(g, c, 2, [x - 3, y], [x + 3, y]);
   }
@@ -128,8 +128,7 @@ function drawArrows(view, g, shown, near) {
   let left = 1500;
   for (let k = shown.from; k < shown.to && left > 0; k++) {
     const it = view.rows[k].first;
-    if (!it.runs || it.kind === FETCH) continue;
-    left--;
+    if (it.isRead) left--;
     sourceArrows(view, g, it, near ? 0.12 : view.rowH < 7 ? 0.3 : 0.6, 1.3);
   }
   const { sel } = view;
@@ -139,6 +138,7 @@ function drawArrows(view, g, shown, near) {
 }
 
 function sourceArrows(view, g, it, alpha, width) {
+  if (!it.runs || it.kind === FETCH) return;
   for (const write of new Set(it.runs.map(run => run.write))) {
     if (!write || write.row < 0 || (write.s === it.s && write.pos < it.pos && !app.filter.own && alpha < 1)) continue;
     arrow(view, g, write, it, colourOf(it.addr, write.kind === ATOMIC && write.put === write.got && alpha < 1 ? alpha * 0.4 : alpha), width);
@@ -180,7 +180,7 @@ function drawRow(view, g, row, near, labels) {
   drawSign(g, it, x, y, r, colour);
   view.hits.push([x, y, it]);
   if (row.count > 1) { const end = rowY(view, view.rowAt[row.last.pos]) - view.rowH / 2; if (end > y + r + 2) stroke(g, colourOf(it.addr, 0.5), Math.max(1.5, r * 0.7), [x, y + r + 1], [x, end]); }
-  if (it.passed && view.rowH > 5) drawPassed(g, x - r - 5, y, Math.max(2, r * 0.75));
+  if (it.passed && view.rowH > 5) drawPassed(g, x - r - (laneWidth(view) > 60 ? 8 : 4), y, Math.max(2, r * 0.7));
   g.globalAlpha = 1;
   if (!it.right) { g.strokeStyle = theme.kill; g.lineWidth = 2; g.strokeRect(x - r - 4, y - r - 4, 2 * r + 8, 2 * r + 8); }
   if (labels) drawLabel(view, g, row, y, faded, colour);

@@ -17,7 +17,7 @@ function showWhy(view, it) {
 }
 
 function showWords() {
-  const { filter, hues } = app, views = app.views, words = new Map();
+  const { filter } = app, views = app.views, words = new Map();
   for (const v of views) for (const w of v.log.words) if (!words.has(w.at)) words.set(w.at, views.map(u => u.log.words.find(x => x.at === w.at) || null));
   const list = [...words].slice(0, 40).map(([at, each]) => {
     const sum = k => each.reduce((n, w) => n + (w ? w[k] : 0), 0), most = Math.max(...each.map(w => (w ? w.strands.size : 0)));
@@ -29,14 +29,13 @@ function showWords() {
       el('small', {}, `${sum('load')} load, ${sum('store')} store, ${sum('atomic')} atomic; ${sum('others')} from another, ${sum('kills')} killed`));
   });
   $('words').replaceChildren(...list, ...(words.size > 40 ? [el('small', {}, `and ${words.size - 40} more: name one above`)] : []));
-  void hues;
 }
 
 function showStrands(view) {
-  const head = el('tr', {}, ...['', 'units', 'ld', 'st', 'at', 'miss', 'pass', 'end'].map(t => el('th', { scope: 'col' }, t)));
+  const head = el('tr', {}, ...['', 'units', 'ld', 'st', 'at', 'miss', 'passed', ''].map(t => el('th', { scope: 'col' }, t)));
   const rows = view.log.strands.map((strand, s) => {
     const n = f => strand.items.filter(f).length, on = app.filter.strand === s;
-    const cells = [strand.units, n(x => x.kind === LOAD), n(x => x.kind === STORE), n(x => x.kind === ATOMIC), n(x => x.kind === LOAD && x.how === 'M'), n(x => x.passed), strand.end + (strand.trap ? ' ' + strand.trap : '')];
+    const cells = [strand.units, n(x => x.kind === LOAD), n(x => x.kind === STORE), n(x => x.kind === ATOMIC), n(x => x.kind === LOAD && x.how === 'M'), n(x => x.passed), strand.end === 'halted' ? '' : strand.end + (strand.trap ? ' ' + strand.trap : '')];
     return el('tr', {}, el('th', { scope: 'row' }, el('button', { class: 'link', type: 'button', 'aria-pressed': String(on), onclick: () => pickStrand(s) }, 's' + s)), ...cells.map(c => el('td', {}, String(c))));
   });
   $('strands').replaceChildren(el('table', {}, el('caption', { class: 'unseen' }, 'Strands: units, loads, stores, atomics, loads that missed, loads that passed a store'), el('thead', {}, head), el('tbody', {}, ...rows)));

@@ -2,7 +2,6 @@
 // A part of a line is a text or an item; items become buttons. Lines are lists of parts.
 
 const destText = (log, dest) => (dest === log.shape.banks ? 'the I/O bridge' : 'bank ' + dest);
-const bytesText = run => (run.from === run.to ? `byte ${run.from} is` : `bytes ${run.from} to ${run.to} are`);
 
 function headOf(view, it) {
   const { log } = view, parts = [`${KINDS[it.kind]} `, it, ` of ${it.size} byte${it.size > 1 ? 's' : ''} at ${hex(it.addr)}`];
@@ -10,33 +9,32 @@ function headOf(view, it) {
   if (name) parts.push(` (${name})`);
   if (it.got !== null) parts.push(` got ${short(it.got)}`);
   if (it.put !== null) parts.push(`${it.got !== null ? ' and' : ''} put ${short(it.put)}`);
-  if (code) parts.push(`: ${code.text} at ${hex(code.pc)}`);
   const source = code && view.names && view.names.lines.get(code.pc);
-  if (source) parts.push(`, line ${source.line} of the text: ${source.text}`);
+  if (code) parts.push(`: ${source ? source.text : code.text || 'fetched'} at ${hex(code.pc)}`);
+  if (source) parts.push(`, line ${source.line} of the text`);
   parts.push(`; line ${it.line} of the log` + (it.pos < 0 ? ', not in the order' : `, place ${it.pos} of the order`));
   return parts;
 }
 
+// For each run of bytes with one source, what that is, or should be; then of each source its commit.
 function sourceLines(view, it) {
-  const { log } = view, lines = [], told = new Set();
-  for (const run of it.runs) {
-    const not = run.right ? '' : ' should be', tail = run.right ? '' : ', and are not', w = run.write;
-    const begin = run.right ? bytesText(run) : bytesText(run).replace(/ (is|are)$/, '') + not;
-    const be = run.right ? ' ' : ' be '.replace('be ', '');
-    if (it.isIo) { lines.push([`${begin}${be}0, as of all I/O${tail}`]); continue; }
-    if (!w) { lines.push([`${begin}${be}those of the image: no write of them stands before it${tail}`]); continue; }
-    if (w.pos > it.pos) {
-      lines.push([`${begin}${be}those of store `, w, ` of its own strand, which stands behind it` + (it.how === 'F' ? `: forwarded at time ${it.time}` : '') + (w.commit ? `; others see it from commit ${w.index} on` : '') + tail]);
-      continue;
+  const { log } = view, lines = [], told = new Set(), killer = killerOf(log, it);
+  for (const { from, to, write, right } of it.runs) {
+    const one = from === to, those = one ? 'that' : 'those', them = one ? 'it' : 'them', end = right ? '' : `, and ${one ? 'is' : 'are'} not`;
+    const begin = `${one ? `byte ${from}` : `bytes ${from} to ${to}`} ${right ? (one ? 'is' : 'are') : 'should be'}`;
+    if (it.isIo) lines.push([`${begin} 0, as of all I/O${end}`]);
+    else if (!write) lines.push([`${begin} ${those} of the image: no write of ${them} stands before it${end}`]);
+    else if (write.pos > it.pos) lines.push([`${begin} ${those} of store `, write, ` of its own strand, which stands behind it${it.how === 'F' ? `: forwarded at time ${it.time}` : ''}${write.commit ? `; others see it from commit ${write.index} on` : ''}${end}`]);
+    else {
+      lines.push([`${begin} ${those} of ${KINDS[write.kind]} `, write, `, the last write of ${them} before it${end}`]);
+      if (write.commit && !told.has(write)) lines.push([`${KINDS[write.kind]} `, write, ` was sent at time ${write.seen} and is commit ${write.index} at ${destText(log, write.commit.dest)}`, ...(write.commit === killer ? [] : killParts(write.commit))]);
+      told.add(write);
     }
-    lines.push([`${begin}${be}those of ${KINDS[w.kind]} `, w, `, the last write of them before it${tail}`]);
-    if (w.commit && !told.has(w)) lines.push([`${KINDS[w.kind]} `, w, ` was sent at time ${w.seen} and is commit ${w.index} at ${destText(log, w.commit.dest)}`, ...killParts(log, w.commit)]);
-    told.add(w);
   }
   return lines;
 }
 
-function killParts(log, commit) {
+function killParts(commit) {
   const data = [...new Set(commit.kills.filter(k => k.cache === 'd').map(k => k.core))], code = [...new Set(commit.kills.filter(k => k.cache === 'i').map(k => k.core))];
   const parts = [];
   if (data.length) parts.push(`; it killed the data line of core${data.length > 1 ? 's' : ''} ${data.join(', ')}`);
@@ -61,8 +59,8 @@ function placeLines(view, it) {
     return [[`${kind} `, it, ` hit at time ${it.time}`, ...(fill ? [`: core ${core} has had the line since `, fill.item, ` filled it as commit ${fill.index}`] : [])]];
   }
   const sent = `was sent at time ${it.seen} and is commit ${it.index}`, at = it.commit ? ` at ${destText(log, it.commit.dest)}` : '';
-  if (it.kind === STORE) return [[`it waited in its strand's buffer, ${sent}${at}`, ...(it.commit ? killParts(log, it.commit) : [])]];
-  if (it.kind === ATOMIC) return [[`atomic `, it, ` went to its bank with an empty buffer, ${sent}${at}: it reads memory after ${it.index} commits`, ...(it.commit ? killParts(log, it.commit) : [])]];
+  if (it.kind === STORE) return [[`it waited in its strand's buffer, ${sent}${at}`, ...(it.commit ? killParts(it.commit) : [])]];
+  if (it.kind === ATOMIC) return [[`atomic `, it, ` went to its bank with an empty buffer, ${sent}${at}: it reads memory after ${it.index} commits`, ...(it.commit ? killParts(it.commit) : [])]];
   if (it.isIo) return [[`${kind} `, it, ` went to the I/O bridge, ${sent}`]];
   return [...missLines(view, it), [`${kind} `, it, ` missed, ${sent}${at}: it reads memory after ${it.index} commits`]];
 }
