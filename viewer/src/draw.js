@@ -134,7 +134,7 @@ function drawArrows(view, g, shown, near) {
   const { sel } = view;
   if (!sel || sel.row < 0) return;
   sourceArrows(view, g, sel, 1, 2.4);
-  for (const read of [...(sel.readers || [])].slice(0, 400)) if (read.row >= 0 && read.fold.first === read) arrow(view, g, sel, read, colourOf(read.addr), 2);
+  for (const read of (sel.readers || []).slice(0, 400)) if (read.row >= 0 && read.fold.first === read) arrow(view, g, sel, read, colourOf(read.addr), 2);
 }
 
 function sourceArrows(view, g, it, alpha, width) {

@@ -24,12 +24,12 @@ function soon(view) { if (!view.waiting) { view.waiting = true; requestAnimation
 const screenRows = view => (view.h - HEAD) / view.rowH;
 function clampTop(view) { view.top = Math.max(-1, Math.min(view.top, view.rows.length + 1 - screenRows(view))); }
 
-function resize(view) {
+function measure(view) {
   view.w = view.canvas.clientWidth; view.h = view.canvas.clientHeight;
   view.canvas.width = view.w * devicePixelRatio; view.canvas.height = view.h * devicePixelRatio;
   view.map = null;
-  clampTop(view); draw(view);
 }
+function resize(view) { measure(view); clampTop(view); draw(view); }
 
 // Moves by rows; with two logs both, where they scroll together.
 function scrollBy(view, rows) {
@@ -96,11 +96,11 @@ function openLog(text, name, beside = false) {
   giveHues();
   $('fault').hidden = true; $('empty').hidden = true; $('pair').hidden = app.views.length < 2;
   $('views').replaceChildren(...app.views.map(v => v.box));
-  for (const v of app.views) { v.title.replaceChildren(el('b', {}, v.name), ' ', ...summary(v)); layRows(v, app.filter); resize(v); }
-  for (const v of app.views) { v.rowH = Math.max(14, Math.min(38, (v.h - HEAD) / (v.rows.length + 2))); v.map = null; v.top = -1; draw(v); }
+  for (const v of app.views) { v.title.replaceChildren(el('b', {}, v.name), ' ', ...summary(v)); layRows(v, app.filter); }
   view.sel = firstOf(view); view.suggested = true;
+  for (const v of app.views) { measure(v); v.rowH = Math.max(14, Math.min(38, (v.h - HEAD) / (v.rows.length + 2))); v.top = -1; draw(v); }
   document.title = app.views.map(v => v.name).join(' and ');
-  activate(view); showWords(); draw(view);
+  activate(view); showWords();
   view.times = { read: read - began, study: studied - read, layout: performance.now() - studied };
   say(`${name} is open: ${view.title.textContent}`);
   return view;

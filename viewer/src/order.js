@@ -45,7 +45,7 @@ function findSources(log) {
         else it.runs.push({ from: byte - it.addr, to: byte - it.addr, write, right: true });
       }
       judge(log, it);
-      if (it.kind !== FETCH) for (const run of it.runs) if (run.write) (run.write.readers = run.write.readers || new Set()).add(it);
+      if (it.kind !== FETCH) for (const { write } of it.runs) if (write) { const readers = write.readers = write.readers || []; if (readers[readers.length - 1] !== it) readers.push(it); }
     }
     if (it.put !== null) for (let byte = it.addr; byte < it.addr + it.size; byte++) last.set(byte, it);
   }
@@ -74,10 +74,9 @@ function ownWritesBehind(log) {
 function judge(log, it) {
   if (it.isIo) { it.right = /^0*$/.test(it.got); it.runs = [{ from: 0, to: it.size - 1, write: null, right: it.right }]; return; }
   for (const run of it.runs) {
-    for (let k = run.from; k <= run.to; k++) {
-      const wants = run.write ? run.write.put.substr(2 * (it.addr + k - run.write.addr), 2) : byteOfImage(log, it.addr + k);
-      if (wants !== it.got.substr(2 * k, 2)) run.right = false;
-    }
+    const got = it.got.slice(2 * run.from, 2 * run.to + 2), { write } = run;
+    if (write) { const at = it.addr + run.from - write.addr; run.right = write.put.slice(2 * at, 2 * at + got.length) === got; }
+    else for (let k = run.from; k <= run.to; k++) if (byteOfImage(log, it.addr + k) !== it.got.substr(2 * k, 2)) run.right = false;
     if (!run.right) it.right = false;
   }
 }

@@ -74,7 +74,7 @@ function whyOf(view, it) {
     const over = log.strands[it.s].items.filter(x => x.i > it.i && x.kind === LOAD && x.pos < it.pos);
     if (over.length) lines.push([`${over.length} later load${over.length > 1 ? 's' : ''} of its strand came before it in the order: `, ...join(over.slice(0, 8))]);
   }
-  if (it.readers) lines.push([`read by `, ...join([...it.readers].slice(0, 24)), it.readers.size > 24 ? ` and ${it.readers.size - 24} more` : '']);
+  if (it.readers) lines.push([`read by `, ...join(it.readers.slice(0, 24)), it.readers.length > 24 ? ` and ${it.readers.length - 24} more` : '']);
   if (it.fold && it.fold.count > 1) lines.push([`one sign for ${it.fold.count} loads, `, it.fold.first, ' to ', it.fold.last, ', which got this value from this source']);
   return lines;
 }
