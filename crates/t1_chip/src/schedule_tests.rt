@@ -5,9 +5,12 @@ use std::process::Abort;
 use std::test::Fail;
 use t1_event::{Config, Ending, Report};
 use t1_machine::Schedule;
+use t1_num::ChipKind;
 
 /// Two cores of one strand, with time to wait.
 const TWO: Config = Config {
+    chip: ChipKind::T1,
+    hyper: false,
     cores: 2,
     strands: 1,
     ram: 65536,
@@ -17,6 +20,8 @@ const TWO: Config = Config {
 
 /// Four cores of one strand.
 const FOUR: Config = Config {
+    chip: ChipKind::T1,
+    hyper: false,
     cores: 4,
     strands: 1,
     ram: 65536,

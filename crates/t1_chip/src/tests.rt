@@ -8,11 +8,13 @@ use t1_core::Wait;
 use t1_elf::{Image, Listed};
 use t1_event::{Config, How, Report};
 use t1_machine::Schedule;
-use t1_num::put_be;
+use t1_num::{ChipKind, put_be};
 use t1_packet::Cache;
 
 /// One core of one strand.
 const ONE: Config = Config {
+    chip: ChipKind::T1,
+    hyper: false,
     cores: 1,
     strands: 1,
     ram: 65536,
@@ -22,6 +24,8 @@ const ONE: Config = Config {
 
 /// Two cores of one strand.
 const TWO: Config = Config {
+    chip: ChipKind::T1,
+    hyper: false,
     cores: 2,
     strands: 1,
     ram: 65536,
@@ -31,6 +35,8 @@ const TWO: Config = Config {
 
 /// One core of one strand, with one set in each L2 bank.
 const ONE_SET: Config = Config {
+    chip: ChipKind::T1,
+    hyper: false,
     cores: 1,
     strands: 1,
     ram: 65536,
@@ -101,7 +107,7 @@ pub(crate) fn program(alloc: Global, entry: u16, words: &[u32]) -> Result<Image,
 /// Does slots, each of which has to be enabled.
 fn do_all(rt: &impl Abort, chip: &mut Chip, numbers: &[u8]) {
     for number in numbers {
-        assert!(rt; *number < 58);
+        assert!(rt; *number < chip.slots());
         assert!(rt; chip.enabled(*number));
         assert!(rt; chip.step(*number) == Step::Done);
     }
