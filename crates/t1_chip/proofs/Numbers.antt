@@ -1,32 +1,42 @@
 -- The slots by their numbers.
-use Rattle.std.proofs.Common.{◌≡◌, ◌+◌, ◌-◌, ◌*◌, ◌/◌, ◌%◌, ◌^◌, ◌<◌, ◌≤◌, ◌≢◌, ◌∙◌, ℕ, Bool, true, false, nat_lt, refl, ap, sym, subst, arith, if◌then◌else◌}
-use Rattle.std.proofs.lemmas.Bool.{ltb-true, ltb-false}
-use Rattle.t1_shape.specs.Shapes.Shape.{T1}
+use Rattle.std.proofs.Common.{◌-◌, ◌/◌, ◌%◌, ◌<◌, ◌≤◌, ℕ, nat_lt, inl, inr, arith}
+use Rattle.std.proofs.lemmas.Bool.{cases_Bool, ltb-true, ltb-false}
+use Rattle.t1_num.specs.declared.chip.ChipKind.TheVariants.{T1, T2}
+use Rattle.t1_shape.specs.Shapes.{Shape}
+use Rattle.t1_shape.specs.Numbers.{most_strands}
 use Rattle.t1_machine.specs.declared.slot.Slot.{Slot}
 use Rattle.t1_machine.specs.declared.slot.Slot.TheVariants.{Exec, Drain, Take, Serve, Admit}
-use Rattle.t1_machine.specs.Slots.{slot_at, IsSlot}
+use Rattle.t1_machine.specs.Slots.{slots, slot_at, first_take, first_serve, first_admit, IsSlot}
 
 -- what holds of the slots of each kind holds of the slot of a number
-pub in_slot : (P : Slot → Type 0) (n : ℕ) → n < 58 → (n < 8 → P (Exec n)) → (8 ≤ n → n < 40 → P (Drain ((n - 8) / 4) ((n - 8) % 4)))
-    → (40 ≤ n → n < 48 → P (Take (n - 40))) → (48 ≤ n → n < 53 → P (Serve (n - 48))) → (53 ≤ n → P (Admit (n - 53))) → P (slot_at T1 n)
-in_slot P n few e d t s a = execs (nat_lt n 8) refl where
-  admits : (b : Bool) → nat_lt n 53 ≡ b → 48 ≤ n → P (if b then Serve (n - 48) else Admit (n - 53))
-  admits true is up = s up (ltb-true n 53 is)
-  admits false is up = let k = ltb-false n 53 is in a (omega (arith, k))
+pub in_slot : (chip : Shape) (P : Slot → Type 0) (n : ℕ) → (n < 8 → P (Exec n))
+    → (8 ≤ n → n < first_take chip → P (Drain ((n - 8) / most_strands chip) ((n - 8) % most_strands chip)))
+    → (first_take chip ≤ n → n < first_serve chip → P (Take (n - first_take chip))) → (first_serve chip ≤ n → n < first_admit chip → P (Serve (n - first_serve chip)))
+    → (first_admit chip ≤ n → P (Admit (n - first_admit chip))) → P (slot_at chip n)
+in_slot chip P n exec drain take serve admit =
+    elim (cases_Bool (nat_lt n 8)) [
+      | inl a ↦ rw a (exec (ltb-true n 8 a))
+      | inr a ↦ elim (cases_Bool (nat_lt n (first_take chip))) [
+        | inl b ↦ rw (a, b) (drain (ltb-false n 8 a) (ltb-true n (first_take chip) b))
+        | inr b ↦ elim (cases_Bool (nat_lt n (first_serve chip))) [
+          | inl c ↦ rw (a, b, c) (take (ltb-false n (first_take chip) b) (ltb-true n (first_serve chip) c))
+          | inr c ↦ elim (cases_Bool (nat_lt n (first_admit chip))) [
+            | inl d ↦ rw (a, b, c, d) (serve (ltb-false n (first_serve chip) c) (ltb-true n (first_admit chip) d))
+            | inr d ↦ rw (a, b, c, d) (admit (ltb-false n (first_admit chip) d))
+          ]
+        ]
+      ]
+    ]
 
-  serves : (b : Bool) → nat_lt n 48 ≡ b → 40 ≤ n → P (if b then Take (n - 40) else if nat_lt n 53 then Serve (n - 48) else Admit (n - 53))
-  serves true is up = t up (ltb-true n 48 is)
-  serves false is up = let k = ltb-false n 48 is in admits (nat_lt n 53) refl (omega (arith, k))
+pub is_slot : (chip : Shape) (n : ℕ) → n < slots chip → IsSlot chip (slot_at chip n)
+is_slot T1 n h =
+    in_slot T1 (λ s. IsSlot T1 s) n (λ few. few) (λ up few. (omega (arith, up, few), omega arith)) (λ up few. omega (arith, up, few)) (λ up few. omega (arith, up, few))
+    (λ up. omega (arith, up, h))
+is_slot T2 n h =
+    in_slot T2 (λ s. IsSlot T2 s) n (λ few. few) (λ up few. (omega (arith, up, few), omega arith)) (λ up few. omega (arith, up, few)) (λ up few. omega (arith, up, few))
+    (λ up. omega (arith, up, h))
 
-  takes : (b : Bool) → nat_lt n 40 ≡ b → 8 ≤ n
-      → P (if b then Drain ((n - 8) / 4) ((n - 8) % 4) else if nat_lt n 48 then Take (n - 40) else if nat_lt n 53 then Serve (n - 48) else Admit (n - 53))
-  takes true is up = d up (ltb-true n 40 is)
-  takes false is up = let k = ltb-false n 40 is in serves (nat_lt n 48) refl (omega (arith, k))
-
-  execs : (b : Bool) → nat_lt n 8 ≡ b
-      → P (if b then Exec n else if nat_lt n 40 then Drain ((n - 8) / 4) ((n - 8) % 4) else if nat_lt n 48 then Take (n - 40) else if nat_lt n 53 then Serve (n - 48) else Admit (n - 53))
-  execs true is = e (ltb-true n 8 is)
-  execs false is = let k = ltb-false n 8 is in takes (nat_lt n 40) refl (omega (arith, k))
-
-pub is_slot : (n : ℕ) → n < 58 → IsSlot T1 (slot_at T1 n)
-is_slot n h = in_slot (λ s. IsSlot T1 s) n h (λ few. few) (λ up few. (omega (arith, up, few), omega arith)) (λ up few. omega (arith, up, few)) (λ up few. omega (arith, up, few)) (λ up. omega (arith, up, h))
+-- each number of a slot has its bit in a set
+pub slots_few : (chip : Shape) → slots chip ≤ 98
+slots_few T1 = omega arith
+slots_few T2 = omega arith

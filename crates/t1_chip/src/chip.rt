@@ -1,9 +1,8 @@
 //! The chip.
 ghost use Rattle.std.specs.Prelude.{ℕ, ◌≡◌, ◌+◌, ◌<◌, ◌≤◌, length, All, IfSome, IfOk, IsTrue, ◌↔◌, Some, None, true, false};
 ghost use Rattle.t1_num.specs.MemoryLaws.{AreBytes};
-ghost use Rattle.t1_shape.specs.Shapes.Shape.{T1};
 ghost use Rattle.t1_machine.specs.declared.schedule.Schedule.TheVariants as schedule;
-ghost use Rattle.t1_machine.specs.Slots.{slot_at};
+ghost use Rattle.t1_machine.specs.Slots.{slots, slot_at};
 ghost use Rattle.t1_machine.specs.Machine.{after_slot, is_enabled};
 ghost use Rattle.t1_machine.specs.Waits.{wait_at};
 ghost use Rattle.t1_machine.specs.Runs.{enabled_from, next_number, tries, Turns, Seed};
@@ -13,10 +12,10 @@ ghost use Rattle.t1_bound.specs.Weights.{machine_weight, steps};
 ghost use Rattle.t1_machine_rule.specs.Stands.{Stands};
 ghost use Rattle.t1_machine_rule.specs.Ends.{NoneEnabled, Ends, Reports};
 ghost use Rattle.t1_machine_rule.specs.Words.{AreWords};
-ghost use Rattle.t1_chip.specs.Chips.{ChipState, is_done, after_found, wrapped, MovesTo, RunsToEnd, Reported};
+ghost use Rattle.t1_chip.specs.Chips.{ChipState, is_done, after_found, wrapped, MovesTo, RunsToEnd, DidSlots, Reported};
 
 use crate::report::{Room, are_words, put_console, put_traces, room_for};
-use crate::slot_set::{ALL, with_woken, without_slot};
+use crate::slot_set::{ALL, clear_from, with_woken, without_slot};
 use rand_core::SeedableRng;
 use rand_core::utils::NextWord;
 use rand_xoshiro::SplitMix64;
@@ -25,7 +24,8 @@ use std::marker::Model;
 use t1_core::Wait;
 use t1_elf::{Image, Listed};
 use t1_event::{Config, Report};
-use t1_machine::{Machine, SLOTS, Schedule, slot_at};
+use t1_machine::{Machine, Schedule, slot_at, slots};
+use t1_num::ChipKind;
 use t1_order::order_of;
 
 /// What came of a slot.
@@ -46,7 +46,7 @@ pub struct Chip {
     config: Config,
     image: Image,
     machine: Machine,
-    maybe: u64,
+    maybe: u128,
     room: Room,
 }
 
@@ -67,21 +67,25 @@ impl Model for Chip {
 }
 
 /// The number after one, cyclically.
-fn next_number(number: u8) -> u8
-    requires { number < 58 }
-    ensures value { result ≡ next_number number }
-    ensures within { result < 58 }
+fn next_number(chip: ChipKind, number: u8) -> u8
+    requires { number < slots chip }
+    ensures value { result ≡ next_number chip number }
+    ensures within { result < slots chip }
 {
-    if number + 1 == SLOTS { 0 } else { number + 1 }
+    if number + 1 == slots(chip) {
+        0
+    } else {
+        number + 1
+    }
 }
 
 /// The first number in place of the one past the last.
-fn wrapped(number: u8) -> u8
-    requires { number ≤ 58 }
-    ensures value { result ≡ wrapped number }
-    ensures within { result < 58 }
+fn wrapped(chip: ChipKind, number: u8) -> u8
+    requires { number ≤ slots chip }
+    ensures value { result ≡ wrapped chip number }
+    ensures within { result < slots chip }
 {
-    if number == SLOTS { 0 } else { number }
+    if number == slots(chip) { 0 } else { number }
 }
 
 /// What is stored in bytes is below 256.
@@ -112,18 +116,20 @@ impl Chip {
 
     /// Does a slot, where it is enabled: whether it was.
     fn attempt(&mut self, number: u8) -> bool
-        requires { number < 58 }
-        ensures state { self.new ≡ record self.old { machine = after_slot self.old.machine (slot_at T1 number) } }
-        ensures done { result ≡ is_enabled self.old.machine (slot_at T1 number) }
+        requires { number < slots self.old.machine.chip }
+        ensures state { self.new ≡ record self.old { machine = after_slot self.old.machine (slot_at self.old.machine.chip number) } }
+        ensures done { result ≡ is_enabled self.old.machine (slot_at self.old.machine.chip number) }
+        ensures chip { self.new.machine.chip ≡ self.old.machine.chip }
         ensures falls { result ≡ true → machine_weight steps self.new.machine < machine_weight steps self.old.machine }
     {
-        match self.machine.step(slot_at(number)) {
+        let chip = self.machine.chip();
+        match self.machine.step(slot_at(chip, number)) {
             None => {
                 self.maybe = without_slot(self.maybe, number);
                 false
             }
             Some(woken) => {
-                self.maybe = with_woken(self.maybe, woken);
+                self.maybe = with_woken(chip, self.maybe, woken);
                 true
             }
         }
@@ -132,9 +138,10 @@ impl Chip {
     /// Does the slot of a number: Idle exactly where it is not enabled, and then nothing changes. Whatever
     /// slots were done, the chip stands as [`Chip::stands`] says.
     pub fn step(&mut self, number: u8) -> Step
-        requires { number < 58 }
-        ensures state { self.new ≡ record self.old { machine = after_slot self.old.machine (slot_at T1 number) } }
-        ensures done { is_done result ≡ is_enabled self.old.machine (slot_at T1 number) }
+        requires { number < slots self.old.machine.chip }
+        ensures state { self.new ≡ record self.old { machine = after_slot self.old.machine (slot_at self.old.machine.chip number) } }
+        ensures done { is_done result ≡ is_enabled self.old.machine (slot_at self.old.machine.chip number) }
+        ensures chip { self.new.machine.chip ≡ self.old.machine.chip }
         ensures stands { Stands self.new.setup self.new.machine }
     {
         let is_done = self.attempt(number);
@@ -142,12 +149,20 @@ impl Chip {
         if is_done { Step::Done } else { Step::Idle }
     }
 
+    /// How many slots its chip has: they are numbered from 0 on.
+    pub fn slots(&self) -> u8
+        ensures { result ≡ slots self.now.machine.chip }
+    {
+        slots(self.machine.chip())
+    }
+
     /// Whether a slot is enabled.
     pub fn enabled(&self, number: u8) -> bool
-        requires { number < 58 }
-        ensures { result ≡ is_enabled self.now.machine (slot_at T1 number) }
+        requires { number < slots self.now.machine.chip }
+        ensures { result ≡ is_enabled self.now.machine (slot_at self.now.machine.chip number) }
     {
-        self.machine.enabled(slot_at(number))
+        let chip = self.machine.chip();
+        self.machine.enabled(slot_at(chip, number))
     }
 
     /// Why a strand of a core would wait now; none exactly where it would not.
@@ -161,7 +176,7 @@ impl Chip {
     pub fn finished(&self) -> bool
         ensures { IsTrue result ↔ NoneEnabled self.now.machine }
     {
-        for number in 0..SLOTS {
+        for number in 0..slots(self.machine.chip()) {
             if self.enabled(number) {
                 return false;
             }
@@ -171,31 +186,25 @@ impl Chip {
 
     /// How many slots from one on, up to the last, are not in the set.
     fn clear_from(&self, number: u8) -> u8
-        requires { number < 58 }
-        ensures within { number + result ≤ 58 }
-        ensures clear { (i : ℕ) → i < result → is_enabled self.now.machine (slot_at T1 (number + i)) ≡ false }
+        requires { number < slots self.now.machine.chip }
+        ensures within { number + result ≤ slots self.now.machine.chip }
+        ensures clear { (i : ℕ) → i < result → is_enabled self.now.machine (slot_at self.now.machine.chip (number + i)) ≡ false }
     {
-        let above = self.maybe >> number;
-        if above == 0 {
-            return 58 - number;
-        }
-        let gap = above.trailing_zeros() as u8;
-        if gap > 58 - number {
-            return 58 - number;
-        }
-        gap
+        clear_from(self.maybe, number, slots(self.machine.chip()))
     }
 
     /// Does the first slot that is enabled, cyclically from one on: its number.
     fn next(&mut self, from: u8) -> Option<u8>
-        requires { from < 58 }
-        ensures found { result ≡ enabled_from self.old.machine from 58 }
+        requires { from < slots self.old.machine.chip }
+        ensures found { result ≡ enabled_from self.old.machine from (slots self.old.machine.chip) }
         ensures state { self.new ≡ record self.old { machine = after_found self.old.machine result } }
-        ensures within { IfSome result (λ number. number < 58) }
+        ensures within { IfSome result (λ number. number < slots self.new.machine.chip) }
+        ensures chip { self.new.machine.chip ≡ self.old.machine.chip }
         ensures falls { IfSome result (λ number. machine_weight steps self.new.machine < machine_weight steps self.old.machine) }
     {
+        let chip = self.machine.chip();
         let mut number = from;
-        let mut left = 58;
+        let mut left = slots(chip);
         while left > 0 {
             let clear = self.clear_from(number);
             if clear >= left {
@@ -203,14 +212,14 @@ impl Chip {
             }
             if clear > 0 {
                 left -= clear;
-                number = wrapped(number + clear);
+                number = wrapped(chip, number + clear);
                 continue;
             }
             if self.attempt(number) {
                 return Some(number);
             }
             left -= 1;
-            number = next_number(number);
+            number = next_number(chip, number);
         }
         None
     }
@@ -275,9 +284,10 @@ impl Chip {
         ensures machine { MovesTo self.old (Turns 0) self.new }
         ensures finished { NoneEnabled self.new.machine }
     {
+        let chip = self.machine.chip();
         let mut from = 0;
         while let Some(number) = self.next(from) {
-            from = next_number(number);
+            from = next_number(chip, number);
         }
     }
 
@@ -285,8 +295,38 @@ impl Chip {
         ensures machine { MovesTo self.old (Seed seed) self.new }
         ensures finished { NoneEnabled self.new.machine }
     {
+        let chip = self.machine.chip();
         let mut words = SplitMix64::from_seed(seed.to_le_bytes());
-        while let Some(_) = self.next(first_tried(&mut words)) {}
+        while let Some(_) = self.next(first_tried(chip, &mut words)) {}
+    }
+
+    /// Does a slot that is drawn from a table, or after 64 draws of slots that are not enabled the first that
+    /// is: its number.
+    fn draw(&mut self, table: &[u8; 1024], words: &mut SplitMix64) -> Option<u8>
+        ensures state { self.new ≡ record self.old { machine = after_found self.old.machine result } }
+        ensures none { result ≡ None → NoneEnabled self.old.machine }
+        ensures falls { IfSome result (λ number. machine_weight steps self.new.machine < machine_weight steps self.old.machine) }
+    {
+        let count = slots(self.machine.chip());
+        for _ in 0..64 {
+            let number = table[(words.next_word() % 1024) as usize] % count;
+            if self.attempt(number) {
+                return Some(number);
+            }
+        }
+        self.next(0)
+    }
+
+    /// Does slots that are drawn from a table until none is enabled: of those that are enabled each as often
+    /// as it stands in the table. Whatever was drawn, the chip stands as [`Chip::stands`] says.
+    pub fn run_drawn(&mut self, table: &[u8; 1024], seed: u64)
+        ensures machine { DidSlots self.old self.new }
+        ensures finished { NoneEnabled self.new.machine }
+        ensures stands { Stands self.new.setup self.new.machine }
+    {
+        let mut words = SplitMix64::from_seed(seed.to_le_bytes());
+        while let Some(_) = self.draw(table, &mut words) {}
+        self.stands();
     }
 
     /// Does slots by a schedule until none is enabled. Returns after at most 24 slots for each unit that
@@ -305,10 +345,10 @@ impl Chip {
 }
 
 /// The number that a word of the generator names.
-fn first_tried(words: &mut SplitMix64) -> u8
-    ensures number { result ≡ tries (Seed words.old) }
+fn first_tried(chip: ChipKind, words: &mut SplitMix64) -> u8
+    ensures number { result ≡ tries chip (Seed words.old) }
     ensures words { words.new ≡ (mix_u64 words.old).1 }
-    ensures within { result < 58 }
+    ensures within { result < slots chip }
 {
-    (words.next_word() % SLOTS as u64) as u8
+    (words.next_word() % slots(chip) as u64) as u8
 }

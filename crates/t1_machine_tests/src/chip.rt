@@ -107,7 +107,7 @@ pub(crate) fn program(alloc: Global, entry: u16, words: &[u32]) -> Result<Image,
 /// Does slots, each of which has to be enabled.
 fn do_all(rt: &impl Abort, chip: &mut Chip, numbers: &[u8]) {
     for number in numbers {
-        assert!(rt; *number < 58);
+        assert!(rt; *number < chip.slots());
         assert!(rt; chip.enabled(*number));
         assert!(rt; chip.step(*number) == Step::Done);
     }

@@ -1,4 +1,4 @@
-use Rattle.std.proofs.Common.{◌≡◌, ◌∙◌, ◌++◌, ◌+◌, List, length, sym, ap, arith, append_assoc, length-append}
+use Rattle.std.proofs.Common.{◌≡◌, ◌∙◌, ◌++◌, List, length, sym, ap, arith, append_assoc, length-append}
 use Rattle.t1_event.specs.declared.trace.Trace.{Trace}
 use Rattle.t1_core.specs.Steps.{CoreState}
 use Rattle.t1_core.specs.Ends.{traces_of}

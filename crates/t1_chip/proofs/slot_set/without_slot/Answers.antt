@@ -3,4 +3,4 @@ use Rattle.t1_chip.proofs.Sets.{without_one}
 use Rattle.t1_chip.proofs.slot_set.without_slot.Goals as goal
 
 pub returns : goal.returns
-returns c = λ n h e. without_one c.args.slots c.args.number n (omega (arith, c.requires)) (omega (arith, h)) e
+returns c = λ n h e. without_one c.args.set c.args.number n (let l = c.requires in omega (arith, l)) (omega (arith, h)) e

@@ -1,10 +1,10 @@
-use Rattle.std.proofs.Common.{◌≡◌, ◌∙◌, ◌≤◌, ℕ, List, length, sym, ap, subst, arith, rules}
+use Rattle.std.proofs.Common.{◌≡◌, List, length, sym, ap, subst, arith, rules}
 use Rattle.t1_event.specs.declared.commit.Commit.{Commit}
 use Rattle.t1_event.specs.declared.report.Place.{Place}
 use Rattle.t1_event.specs.declared.trace.Trace.{Trace}
 use Rattle.t1_event.specs.Items.{items_of}
 use Rattle.t1_event.specs.Keys.{IsOrderByKeys}
-use Rattle.t1_order.specs.Orderable.{AreOrderable, accesses_in}
+use Rattle.t1_order.specs.Orderable.{accesses_in}
 use Rattle.t1_core.specs.Steps.{CoreState}
 use Rattle.t1_machine.specs.Start.{setup_of}
 use Rattle.t1_machine_rule.specs.Ends.{NoneEnabled, Reports}

@@ -1,4 +1,5 @@
-use Rattle.std.proofs.Common.{◌<◌}
+use Rattle.std.proofs.Common.{◌≡◌, ◌<◌}
+use Rattle.t1_machine.specs.Slots.{slots}
 use Rattle.t1_machine.specs.Runs.{Turns}
 use Rattle.t1_bound.specs.Weights.{machine_weight, steps}
 use Rattle.t1_chip.specs.Chips.{ChipState, MovesTo}
@@ -6,7 +7,8 @@ use Rattle.t1_chip.proofs.chip.Chip.run_turns.Given as goal
 
 abbrev pub invariant-loop-number : goal.invariant-loop-number
 invariant-loop-number l = record {
-  within : l.from < 58;
+  chip : l.chip ≡ l.self.machine.chip;
+  within : l.from < slots l.self.machine.chip;
   rest : (end : ChipState) → MovesTo l.self (Turns l.from) end → MovesTo l.initial.self (Turns 0) end;
 }
 
