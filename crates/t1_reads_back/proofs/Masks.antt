@@ -2,7 +2,7 @@
 use Rattle.std.proofs.Common.{ℕ, ◌%◌, ◌<◌, ◌==◌, ◌&&◌, not, nat_lt, inl, inr, Bool, true, false, if◌then◌else◌, List, [], ◌∷◌, Option, Some, None, arith}
 use Rattle.std.proofs.lemmas.Bool.{cases_Bool}
 use Rattle.t1_num.specs.Fields.{field_of}
-use Rattle.t1_insn.specs.Ranges.{is_register_condition, is_read_asr, is_write_asr, is_read_privileged, is_write_privileged}
+use Rattle.t1_insn.specs.Ranges.{is_register_condition, is_read_asr, is_write_asr, is_read_privileged, is_write_privileged, is_hyperprivileged}
 use Rattle.t1_insn.specs.declared.operand.Mem.{Mem}
 use Rattle.t1_insn.specs.declared.operand.Mem.TheVariants.{Plain}
 use Rattle.t1_insn.specs.declared.operation.LoadKind.{LoadKind}
@@ -13,7 +13,7 @@ use Rattle.t1_insn.specs.declared.instruction.Insn.TheVariants as insn
 use Rattle.t1_decode.specs.Fields.{is_set, rd_of, rs1_of, source_of, alternate_of}
 use Rattle.t1_decode.specs.Rows.{row_of, moved, or_else}
 use Rattle.t1_decode.specs.AluTable.{alu_rows}
-use Rattle.t1_decode.specs.Forms.{codes_rows, is_twin_load, is_twin_store, bpcc_of, bpr_of, shift_of, read_asr_of, read_privileged_of, movcc_of, movr_of, write_asr_of, write_privileged_of, saved_of, done_of, trap_of, load_of, store_of, cas_of}
+use Rattle.t1_decode.specs.Forms.{codes_rows, is_twin_load, is_twin_store, bpcc_of, bpr_of, shift_of, read_asr_of, read_privileged_of, read_hyper_of, movcc_of, movr_of, write_asr_of, write_privileged_of, write_hyper_of, saved_of, done_of, trap_of, load_of, store_of, cas_of}
 use Rattle.t1_decode.specs.MemoryTable.{access_rows, other_access_rows}
 use Rattle.t1_decode.specs.Words.{op2_rows, control_rows, in_table, in_accesses, branch_of, control_of, arithmetic_of, plain_access_of, alternate_access_of, other_access_of, memory_of, insn_of}
 
@@ -75,6 +75,10 @@ read_privileged_mask : (word : ℕ) → HasMask (read_privileged_of word)
 unfolding read_privileged_of
 read_privileged_mask word = if_mask (is_read_privileged (rs1_of word)) _ _ tt tt
 
+read_hyper_mask : (word : ℕ) → HasMask (read_hyper_of word)
+unfolding read_hyper_of
+read_hyper_mask word = if_mask (is_hyperprivileged (rs1_of word)) _ _ tt tt
+
 movcc_mask : (word : ℕ) → HasMask (movcc_of word)
 unfolding movcc_of
 movcc_mask word = if_mask (is_set word 18) _ _ (else_mask (row_of (field_of word 12 11) codes_rows) _ _ (λ wide. tt) tt) tt
@@ -90,6 +94,10 @@ write_asr_mask word = if_mask (is_write_asr (rd_of word)) _ _ tt tt
 write_privileged_mask : (word : ℕ) → HasMask (write_privileged_of word)
 unfolding write_privileged_of
 write_privileged_mask word = if_mask (is_write_privileged (rd_of word)) _ _ tt tt
+
+write_hyper_mask : (word : ℕ) → HasMask (write_hyper_of word)
+unfolding write_hyper_of
+write_hyper_mask word = if_mask (is_hyperprivileged (rd_of word)) _ _ tt tt
 
 saved_mask : (word : ℕ) → HasMask (saved_of word)
 unfolding saved_of
@@ -138,16 +146,19 @@ controls word = (
       (
         read_asr_mask word,
         (
-          read_privileged_mask word,
+          read_hyper_mask word,
           (
-            tt,
+            read_privileged_mask word,
             (
-              movcc_mask word,
+              tt,
               (
-                movr_mask word,
+                movcc_mask word,
                 (
-                  write_asr_mask word,
-                  (saved_mask word, (write_privileged_mask word, (tt, (tt, (tt, (tt, (trap_mask word, (tt, (tt, (tt, (done_mask word, tt))))))))))),
+                  movr_mask word,
+                  (
+                    write_asr_mask word,
+                    (saved_mask word, (write_privileged_mask word, (write_hyper_mask word, (tt, (tt, (tt, (tt, (trap_mask word, (tt, (tt, (tt, (done_mask word, tt)))))))))))),
+                  ),
                 ),
               ),
             ),
