@@ -77,8 +77,8 @@ impl Agents {
         ensures starts { IfOk result (λ a. AreAtStart a) }
     {
         are_bytes(image.ram.as_slice());
-        let dests = t1_shape::destinations(config.chip) as usize;
-        let (senders, receivers) = ports(alloc, dests, MOST_SERVED)?;
+        let count = t1_shape::destinations(config.chip);
+        let (senders, receivers) = ports(alloc, count as usize, MOST_SERVED)?;
         let (posters, takers) = ports(alloc, config.cores as usize, MOST_PACKETS)?;
         let crossbar = CrossbarAgent::new(alloc, config, &image, receivers, posters)?;
         let (dests, hubs) = destinations(alloc, config, &image, senders)?;

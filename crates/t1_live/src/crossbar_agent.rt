@@ -1,5 +1,5 @@
 //! The agent of the crossbar.
-ghost use Rattle.std.specs.Prelude.{◌≡◌, ◌<◌, ◌≤◌, [], length, true, IfOk};
+ghost use Rattle.std.specs.Prelude.{◌≡◌, ◌+◌, ◌<◌, ◌≤◌, [], length, true, IfOk};
 ghost use Rattle.t1_shape.specs.Numbers.{destinations};
 ghost use Rattle.t1_machine.specs.Machine.{posts_pushed};
 ghost use Rattle.t1_machine.specs.Start.{IsRunnable, setup_of};

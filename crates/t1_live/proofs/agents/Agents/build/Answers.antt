@@ -24,7 +24,7 @@ cores-requires-clause-wired c =
     let marks = tx_marks c.in_ok-senders.senders.items in
     wired_first (setup_of c.args.config.now c.args.image) (ids destination_id c.in_ok-dests.dests.items) (crossbar_id c.in_ok-crossbar.crossbar) (queues_of c.in_ok-dests.hubs.items) marks
     (ids_length destination_id c.in_ok-dests.dests.items ∙ c.in_ok-dests.ensures.len.0) (ap (λ (z : Id). z.setup) id) (ap (λ (z : Id). z.from) id ∙ sym c.in_ok-senders.ensures.marks)
-    (tx_marks_length c.in_ok-senders.senders.items ∙ (c.in_ok-senders.ensures.count.0 ∙ c.destinations.ensures.value))
+    (tx_marks_length c.in_ok-senders.senders.items ∙ (c.in_ok-senders.ensures.count.0 ∙ c.destinations-count.ensures.value))
     (ap (λ (z : Id). length z.to) id ∙ (tx_marks_length c.in_ok-posters.posters.items ∙ c.in_ok-posters.ensures.count.0)) c.in_ok-dests.ensures.serving
 
 pub returns-clause-starts : goal.returns-clause-starts
