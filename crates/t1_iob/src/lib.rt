@@ -11,7 +11,6 @@ ghost use Rattle.t1_iob.specs.Console.{console_byte_of};
 use t1_event::Commit;
 use t1_packet::{Kills, Op, Request, Served};
 
-
 /// The address of the console, the first of I/O space.
 const CONSOLE: u64 = 0x80_0000_0000;
 
