@@ -270,11 +270,7 @@ pub fn answer(
 }
 
 /// Empties a way of a set, where the cache has it.
-pub fn empty_way<const WAYS: usize, const LINE: usize>(
-    cache: &mut L1<WAYS, LINE>,
-    set: u8,
-    way: u8,
-)
+pub fn empty_way<const WAYS: usize, const LINE: usize>(cache: &mut L1<WAYS, LINE>, set: u8, way: u8)
     ensures { cache.new ≡ emptied_in cache.old set way }
 {
     if (set as usize) < cache.sets() && (way as usize) < WAYS {

@@ -91,7 +91,12 @@ fn first_threads(
 {
     let mut threads = Vec::with_capacity(alloc, config.strands as usize)?;
     for i in 0..config.strands {
-        let strand = Strand::start(number + i, config.cores * config.strands, entry, config.hyper);
+        let strand = Strand::start(
+            number + i,
+            config.cores * config.strands,
+            entry,
+            config.hyper,
+        );
         threads.push(Thread::new(alloc, strand, config.budget)?)?;
     }
     Ok(threads)

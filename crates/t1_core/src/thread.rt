@@ -332,15 +332,7 @@ impl Thread {
 
     /// A store enters the buffer.
     #[tactic(auto, unfolding(crate::specs::Threads::stored, crate::specs::Threads::unit_done))]
-    pub fn store(
-        &mut self,
-        chip: ChipKind,
-        insn: &Insn,
-        addr: u64,
-        size: u8,
-        value: u64,
-        ram: u64,
-    )
+    pub fn store(&mut self, chip: ChipKind, insn: &Insn, addr: u64, size: u8, value: u64, ram: u64)
         requires unit { owed self.old.phase ≡ 1 }
         requires insn { IsInsnOf insn.now (word_of self.old.phase) }
         requires room { length self.old.stores < 8 }

@@ -8,8 +8,8 @@ ghost use Rattle.t1_decode.specs.Words.{branch_of, arithmetic_of, control_of, me
 
 use crate::fields::{alternate, bit, cond, rd, rs1, signed, source};
 use crate::forms::{
-    bpcc, bpr, cas, done, load, movcc, movr, read_asr, read_hyper, read_privileged, saved, shift, store, trap,
-    write_asr, write_hyper, write_privileged,
+    bpcc, bpr, cas, done, load, movcc, movr, read_asr, read_hyper, read_privileged, saved, shift,
+    store, trap, write_asr, write_hyper, write_privileged,
 };
 use crate::{access_rows, alu_rows, control_rows};
 use t1_insn::{AluOp, Insn, LoadKind, Mem, ShiftOp, StoreKind};

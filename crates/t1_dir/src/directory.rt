@@ -154,8 +154,12 @@ impl Directory {
         let ways = self.ways(cache) as usize;
         let sets = self.sets(cache);
         match cache {
-            Cache::Dcache => self.dcache_marks.others_may_hold(ways, sets, own, addr / 16),
-            Cache::Icache => self.icache_marks.others_may_hold(ways, sets, own, addr / 32),
+            Cache::Dcache => self
+                .dcache_marks
+                .others_may_hold(ways, sets, own, addr / 16),
+            Cache::Icache => self
+                .icache_marks
+                .others_may_hold(ways, sets, own, addr / 32),
         }
     }
 

@@ -7,8 +7,8 @@ ghost use Rattle.t1_encode.specs.Numbers.{access_number as op3_of_access};
 ghost use Rattle.t1_encode.specs.Words.{format_3 as fields_3, encoded};
 
 use crate::fields::{
-    codes, condition, flag, load_register, number, number_source, operand, read_asr,
-    hyper, read_privileged, register, register_condition, signed, source, space, store_register,
+    codes, condition, flag, hyper, load_register, number, number_source, operand, read_asr,
+    read_privileged, register, register_condition, signed, source, space, store_register,
     write_asr, write_privileged,
 };
 use crate::numbers::{access_number, alu_number, load_number, shift_number, store_number};
@@ -69,9 +69,7 @@ fn word(insn: &Insn) -> Option<u32>
         Insn::ReadPr { reg, rd } => {
             Some(format_3(2, register(rd)?, 0x2a, read_privileged(reg)?, 0))
         }
-        Insn::ReadHpr { reg, rd } => {
-            Some(format_3(2, register(rd)?, 0x29, hyper(reg)?, 0))
-        }
+        Insn::ReadHpr { reg, rd } => { Some(format_3(2, register(rd)?, 0x29, hyper(reg)?, 0)) }
         Insn::Flushw => Some(format_3(2, 0, 0x2b, 0, 0)),
         Insn::Movcc {
             cond,

@@ -79,7 +79,12 @@ impl Model for BankArray {
 }
 
 /// A bank's lines of a RAM, in order.
-fn lines_of(alloc: Global, chip: ChipKind, bank: u8, ram: &[u8]) -> Result<Vec<[u8; 64]>, AllocError>
+fn lines_of(
+    alloc: Global,
+    chip: ChipKind,
+    bank: u8,
+    ram: &[u8],
+) -> Result<Vec<[u8; 64]>, AllocError>
     requires bank { bank < banks chip }
     requires whole { length ram.now % 65536 ≡ 0 }
     ensures { IfOk result (λ v. v.items ≡ lines_of_bank chip bank ram.now (length ram.now / 64 / banks chip)) }

@@ -71,7 +71,7 @@ module _ (config : Config) (image : Image) (blocks : config.ram % 65536 ≡ 0) (
         tried = g.parts.tried;
         posted = g.parts.posted;
         strands = g.parts.strands;
-      chip = g.parts.chip;
+        chip = g.parts.chip;
       };
       calls = calls;
       admitted = g.admitted;

@@ -103,7 +103,7 @@ module _ (config : Config) (image : Image) (m : MachineState) (g : Kept (setup_o
         tried = g.parts.tried;
         posted = g.parts.posted;
         strands = g.parts.strands;
-      chip = g.parts.chip;
+        chip = g.parts.chip;
       };
       calls = calls;
       admitted = g.admitted;
