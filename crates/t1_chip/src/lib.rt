@@ -5,6 +5,8 @@ mod chip;
 mod report;
 #[cfg(test)]
 mod schedule_tests;
+#[cfg(test)]
+mod shape_tests;
 mod slot_set;
 #[cfg(test)]
 mod tests;
