@@ -15,4 +15,6 @@ mod order;
 #[cfg(test)]
 mod schedule;
 #[cfg(test)]
+mod shapes;
+#[cfg(test)]
 mod sparc_core;
