@@ -3,6 +3,7 @@
 use crate::serve::{Came, assert_rows, serve_all};
 use std::alloc::Global;
 use std::fmt::Write;
+use std::process::Abort;
 use std::test::Fail;
 use t1_guests::{
     CALM, Input, Out, ROW, Row, Seen, counter, message, store_membar_load, two_readers,
@@ -143,9 +144,26 @@ fn run_by(alloc: Global, text: &str, words: &str, schedule: Option<u64>) -> Resu
     Ok(serve_all(alloc, lines.as_str(), text, CALM)?)
 }
 
+/// Runs a guest by each of some schedules: it halts, and each log shows what is seen.
+fn assert_seen(
+    rt: &impl Abort,
+    alloc: Global,
+    text: &str,
+    words: &str,
+    schedules: &[Option<u64>],
+    seen: Seen,
+) -> Result<(), Fail> {
+    for schedule in schedules {
+        let came = run_by(alloc, text, words, *schedule)?;
+        let log = str::from_utf8(came.out.as_slice())?;
+        assert_eq!(rt; came.status, 0, "{words} {schedule:?}");
+        assert!(rt; seen.is(alloc, log)?, "{words} {schedule:?}");
+    }
+    Ok(())
+}
+
 #[test]
 fn logs_show_what_the_memory_order_allows(rt: HostRuntime) -> Result<(), Fail> {
-    let unfenced = unfenced(rt.alloc())?;
     let byte = Seen::Got {
         strand: "0",
         kind: "load",
@@ -165,40 +183,46 @@ fn logs_show_what_the_memory_order_allows(rt: HostRuntime) -> Result<(), Fail> {
         got: "b5802000",
     };
     let put = Seen::Put("0000000000000140");
-    let table: [(&str, &str, &[Option<u64>], Seen); 8] = [
-        (
-            unfenced.as_str(),
-            "--cores 2 --strands 1 --budget 10",
-            ALL,
-            Seen::Any,
-        ),
-        (
-            unfenced.as_str(),
-            "--cores 2 --strands 1 --budget 10",
-            &[Some(18)],
-            Seen::NoStore,
-        ),
-        (
-            store_membar_load(),
-            "--cores 2 --strands 1 --budget 20",
-            ALL,
-            Seen::OneStore,
-        ),
-        (two_readers(), "--cores 4 --strands 1", ALL, Seen::OneOrder),
-        (STORE_AND_LOAD_A_BYTE, "--cores 1 --strands 1", ALL, byte),
-        (message(), "--cores 2 --strands 1", ALL, flag),
-        (WRITTEN_CODE, "--cores 2 --strands 1", ALL, halt),
-        (counter(), "--budget 3000", &[None], put),
-    ];
-    for (text, words, schedules, seen) in table {
-        for schedule in schedules {
-            let came = run_by(rt.alloc(), text, words, *schedule)?;
-            let log = str::from_utf8(came.out.as_slice())?;
-            assert_eq!(rt; came.status, 0, "{words} {schedule:?}");
-            assert!(rt; seen.is(rt.alloc(), log)?, "{words} {schedule:?}");
-        }
-    }
-    Ok(())
+    let two = "--cores 2 --strands 1";
+    let few = "--cores 2 --strands 1 --budget 10";
+    let more = "--cores 2 --strands 1 --budget 20";
+    let unfenced = unfenced(rt.alloc())?;
+    assert_seen(&rt, rt.alloc(), unfenced.as_str(), few, ALL, Seen::Any)?;
+    assert_seen(
+        &rt,
+        rt.alloc(),
+        unfenced.as_str(),
+        few,
+        &[Some(18)],
+        Seen::NoStore,
+    )?;
+    assert_seen(
+        &rt,
+        rt.alloc(),
+        store_membar_load(),
+        more,
+        ALL,
+        Seen::OneStore,
+    )?;
+    assert_seen(
+        &rt,
+        rt.alloc(),
+        two_readers(),
+        "--cores 4 --strands 1",
+        ALL,
+        Seen::OneOrder,
+    )?;
+    assert_seen(
+        &rt,
+        rt.alloc(),
+        STORE_AND_LOAD_A_BYTE,
+        "--cores 1 --strands 1",
+        ALL,
+        byte,
+    )?;
+    assert_seen(&rt, rt.alloc(), message(), two, ALL, flag)?;
+    assert_seen(&rt, rt.alloc(), WRITTEN_CODE, two, ALL, halt)?;
+    assert_seen(&rt, rt.alloc(), counter(), "--budget 3000", &[None], put)
 }
 
 #[test]
