@@ -3,7 +3,10 @@
 use crate::serve::assert_row;
 use std::alloc::{AllocError, Global};
 use std::fmt::Write;
+use std::process::Abort;
+use std::sync::Wait;
 use std::test::Fail;
+use std::thread::Threads;
 use t1_guests::{CALM, Change, File, Input, Out, Plan, ROW, Row, STORE_AND_LOAD, stored_log};
 
 /// An output of few bytes.
@@ -132,20 +135,31 @@ fn a_file_that_is_cut_or_points_outside_is_refused(rt: HostRuntime) -> Result<()
     Ok(())
 }
 
+/// A front of a log is refused: it ends behind so many whole lines.
+fn assert_unended<R: Threads + Wait + Sync + Abort>(
+    rt: &R,
+    alloc: Global,
+    front: &str,
+    line: u32,
+) -> Result<(), AllocError> {
+    let told = format!(in alloc; "log line {line}: Unended")?;
+    let row = Row {
+        words: "check",
+        input: Input::Text(front),
+        plan: SMALL,
+        status: 2,
+        out: Out::Is(""),
+        err: told.as_str(),
+    };
+    assert_row(rt, alloc, &row)
+}
+
 #[test]
 fn a_log_that_is_cut_is_refused(rt: HostRuntime) -> Result<(), Fail> {
     let mut line = 0u32;
     for (size, byte) in stored_log().bytes().enumerate() {
-        let told = format!(in rt.alloc(); "log line {line}: Unended")?;
-        let row = Row {
-            words: "check",
-            input: Input::Text(stored_log().get(..size).unwrap_or("")),
-            plan: SMALL,
-            status: 2,
-            out: Out::Is(""),
-            err: told.as_str(),
-        };
-        assert_row(&rt, rt.alloc(), &row)?;
+        let front = stored_log().get(..size).unwrap_or("");
+        assert_unended(&rt, rt.alloc(), front, line)?;
         if byte == b'\n' {
             line = line.saturating_add(1);
         }
